@@ -1,0 +1,3 @@
+pub mod OneStream
+pub mod ExampleLemmas
+pub mod UniqueLemmas

@@ -1,0 +1,57 @@
+-- What came of a run.
+use Rattle.std.proofs.Common.{◌≢◌, ℕ, inl, inr, List, [], Option, refl}
+use Rattle.std.specs.Prelude.{Result, Ok, Err}
+use Rattle.arrival_spec.specs.declared.event.Scripted.{Scripted}
+use Rattle.run_spec.specs.Decode.{DecodedSet}
+use Rattle.site_io.specs.Writes.{Grows}
+use Rattle.site_io.specs.declared.outside.OutsideFault.{OutsideFault}
+use Rattle.collector_top.specs.declared.plan.PlannedMessage.{PlannedMessage}
+use Rattle.collector_top.specs.declared.reading.Phase.TheVariants as phase
+use Rattle.collector_top.specs.declared.reading.ReadEnd.{ReadEnd}
+use Rattle.collector_top.specs.declared.reading.ReadEnd.TheVariants as end
+use Rattle.collector_top.specs.declared.reading.Reading.{Reading}
+use Rattle.collector_top.specs.declared.direct.Outcome.TheVariants as outcome
+use Rattle.collector_top.specs.Reading.{TakenFrom, Gives}
+use Rattle.collector_top.specs.Plan.{AreAllPlanned}
+use Rattle.collector_top.specs.Stream.{PlansStream}
+use Rattle.collector_top.specs.Put.{PutsText}
+use Rattle.collector_top.specs.Direct.{EndsReading, Comes}
+use Rattle.collector_top.proofs.PutLemmas.{text_of}
+use Rattle.collector_top.proofs.FileLemmas.{file_text}
+use Rattle.collector_top.specs.Found.{IsSomePlainStream}
+use Rattle.collector_top.proofs.EventLemmas.{first_form, not_first_form}
+
+ends_reading : (left now_left : Option (List Scripted)) (given : List Scripted) (r : Reading) (e : ReadEnd) → e ≢ end.Memory → Gives left now_left given r e → EndsReading left now_left given e
+ends_reading left now_left given r end.End ne g = (g.all refl, g.below (inl refl))
+ends_reading left now_left given r end.Fault ne g = g.below (inr refl)
+ends_reading left now_left given r end.Limit ne g = g.limit refl
+ends_reading left now_left given r end.Memory ne g = absurd (ne refl)
+
+-- the plan was put
+abbrev pub Puts : Option (List ℕ) → Option (List ℕ) → List PlannedMessage → Result (Unit {0}) OutsideFault → Type 0
+Puts held now_held planned r = (decoded : List (List DecodedSet)) → AreAllPlanned planned decoded → PutsText held now_held (text_of decoded) r
+
+abbrev pub Given : Option (List Scripted) → Option (List Scripted) → Reading → ReadEnd → Type 0
+Given left now_left r e = (given : List Scripted) × Gives left now_left given r e
+
+pub comes_written : (left now_left : Option (List Scripted)) (held now_held : Option (List ℕ)) (r : Reading) (e : ReadEnd) (planned : List PlannedMessage) (x : Unit {0}) → Given left now_left r e → e ≢ end.Memory
+    → r.phase ≢ phase.Strange → PlansStream r.octets planned → IsSomePlainStream r.octets → Puts held now_held planned (Ok x)
+    → (given : List Scripted) × TakenFrom left now_left given × Comes left now_left held now_held given (outcome.Written e)
+comes_written left now_left held now_held r e planned x g ne phased p form put =
+    (g.0, g.1.taken, (ends_reading left now_left g.0 r e ne g.1, first_form g.0 r (g.1.read ne) phased form, (text_of p.decoded, file_text g.0 r planned (g.1.read ne) phased p, put p.decoded p.are)))
+
+pub comes_failed : (left now_left : Option (List Scripted)) (held now_held : Option (List ℕ)) (r : Reading) (e : ReadEnd) (planned : List PlannedMessage) (f : OutsideFault) → Given left now_left r e → e ≢ end.Memory
+    → r.phase ≢ phase.Strange → PlansStream r.octets planned → IsSomePlainStream r.octets → Puts held now_held planned (Err f)
+    → (given : List Scripted) × TakenFrom left now_left given × Comes left now_left held now_held given (outcome.SinkFailed e)
+comes_failed left now_left held now_held r e planned f g ne phased p form put =
+    (g.0, g.1.taken, (ends_reading left now_left g.0 r e ne g.1, first_form g.0 r (g.1.read ne) phased form, (text_of p.decoded, file_text g.0 r planned (g.1.read ne) phased p, put p.decoded p.are)))
+
+pub comes_wanting : (left now_left : Option (List Scripted)) (held now_held : Option (List ℕ)) (r : Reading) (e : ReadEnd) (planned : List PlannedMessage) (f : OutsideFault) → Given left now_left r e → e ≢ end.Memory
+    → r.phase ≢ phase.Strange → PlansStream r.octets planned → IsSomePlainStream r.octets → Puts held now_held planned (Err f)
+    → (given : List Scripted) × TakenFrom left now_left given × Comes left now_left held now_held given outcome.Memory
+comes_wanting left now_left held now_held r e planned f g ne phased p form put =
+    (g.0, g.1.taken, inr (first_form g.0 r (g.1.read ne) phased form, (text_of p.decoded, file_text g.0 r planned (g.1.read ne) phased p, put p.decoded p.are)))
+
+pub comes_not_built : (left now_left : Option (List Scripted)) (held now_held : Option (List ℕ)) (r : Reading) (e : ReadEnd) → Given left now_left r e → e ≢ end.Memory → (r.phase ≢ phase.Strange → IsSomePlainStream r.octets → ⊥)
+    → Grows held now_held [] → (given : List Scripted) × TakenFrom left now_left given × Comes left now_left held now_held given (outcome.NotBuilt e)
+comes_not_built left now_left held now_held r e g ne none same = (g.0, g.1.taken, (ends_reading left now_left g.0 r e ne g.1, not_first_form g.0 r (g.1.read ne) none, same))

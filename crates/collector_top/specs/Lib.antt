@@ -1,0 +1,11 @@
+pub mod Reading
+pub mod Plain
+pub mod Specifiers
+pub mod Templates
+pub mod Plan
+pub mod Stream
+pub mod Put
+pub mod FirstForm
+pub mod Found
+pub mod Direct
+pub mod Words

@@ -1,0 +1,210 @@
+// The command `direct`: one file to JSON lines, on the calling thread.
+ghost use Rattle.std.specs.Prelude.{◌≡◌, ◌≢◌, ◌≤◌, ◌<◌, ◌⊎◌, ◌^◌, ◌↔◌, ℕ, Err, IsTrue, List, IfOk, IfSome, MatchOption, None, map, string_bytes};
+ghost use Rattle.arrival_spec.specs.declared.event.Scripted.{Scripted};
+ghost use Rattle.site_io.specs.Outside.{Counts};
+ghost use Rattle.site_io.specs.Seen.{ChangesSay};
+ghost use Rattle.collector_top.specs.Reading.{TakenFrom};
+ghost use Rattle.collector_top.specs.Stream.{PlansStream};
+ghost use Rattle.collector_top.specs.Found.{IsSomePlainStream};
+ghost use Rattle.collector_top.specs.Direct.{Comes, CountsFaults, ShowsOutcome, ChangesPlaceAndSink, LeavesAfter, RunsDirect, Leaves, Completes, run_status, silent_status, ReportsStatus};
+
+use crate::plan::PlannedMessage;
+use crate::put::put_messages;
+use crate::reading::{Phase, ReadEnd, Reading, read_all};
+use crate::stream::plan_stream;
+use col_base::{Octets, Text, Transport};
+use site_io::{InputSpec, OutsideFault, Sink, Site, Source};
+use std::alloc::{AllocError, Global};
+
+/// What came of a call.
+#[derive(Clone, Copy, Debug, PartialEq, Eq)]
+pub enum Outcome {
+    /// Memory was wanted.
+    Memory,
+    /// The source could not be opened.
+    NoSource,
+    /// The sink could not be opened.
+    NoSink,
+    /// What the source gave has a form that isn't built yet; and why the reading had ended.
+    NotBuilt(ReadEnd),
+    /// The text was written, or the sink failed meanwhile; and why the reading had ended.
+    Written(ReadEnd),
+    SinkFailed(ReadEnd),
+}
+
+/// What is to be printed of what was read. None where it has a form that isn't built yet.
+fn plan(alloc: Global, reading: &Reading) -> Result<Option<Vec<PlannedMessage<'_>>>, AllocError>
+    ensures phase { IfOk result (λ found. IfSome found (λ planned. reading.now.phase ≢ Phase.Strange)) }
+    ensures stream { IfOk result (λ found. IfSome found (λ planned. PlansStream reading.now.octets planned.items)) }
+    ensures form { IfOk result (λ found. MatchOption found
+        (reading.now.phase ≢ Phase.Strange → IsSomePlainStream reading.now.octets → ⊥)
+        (λ planned. IsSomePlainStream reading.now.octets)) }
+{
+    if reading.phase == Phase::Strange {
+        return Ok(None);
+    }
+    plan_stream(alloc, reading.octets.as_slice())
+}
+
+/// Whether the reading ended for want of memory.
+fn wants_memory(end: ReadEnd) -> bool
+    ensures { IsTrue result ↔ (end ≡ ReadEnd.Memory) }
+{
+    match end {
+        ReadEnd::Memory => true,
+        ReadEnd::End | ReadEnd::Fault | ReadEnd::Limit => false,
+    }
+}
+
+/// Reads a source to its end, judges what it gave, and writes the text.
+fn run_open<S: Source, K: Sink>(alloc: Global, source: &mut S, sink: &mut K) -> Outcome
+    ensures comes { (given : List Scripted) × TakenFrom (S.left source.old) (S.left source.new) given
+        × Comes (S.left source.old) (S.left source.new) (K.held sink.old) (K.held sink.new) given result }
+    ensures faults { CountsFaults (S.faults source.old) (S.faults source.new) (K.faults sink.old) (K.faults sink.new) result }
+{
+    let mut reading = Reading {
+        phase: Phase::Before,
+        octets: Octets::new(alloc),
+    };
+    let end = read_all(alloc, source, &mut reading);
+    if wants_memory(end) {
+        return Outcome::Memory;
+    }
+    match plan(alloc, &reading) {
+        Ok(Some(planned)) => match put_messages(alloc, &planned, sink) {
+            Ok(()) => Outcome::Written(end),
+            Err(OutsideFault::Failed) => Outcome::SinkFailed(end),
+            Err(OutsideFault::NoMemory) => Outcome::Memory,
+        },
+        Ok(None) => Outcome::NotBuilt(end),
+        Err(_) => Outcome::Memory,
+    }
+}
+
+/// The input of the command.
+fn input_spec(alloc: Global, place: &str) -> Result<InputSpec, AllocError>
+    ensures { IfOk result (λ spec. spec.place ≡ place.now) }
+{
+    Ok(InputSpec {
+        name: Text::from_str(alloc, "in")?,
+        transport: Transport::File,
+        place: Text::from_str(alloc, place)?,
+    })
+}
+
+/// Opens the source and the sink, runs, and gives both back.
+fn run_named<S: Site>(alloc: Global, spec: &InputSpec, out: &str, site: &mut S) -> Outcome
+    ensures shows { ShowsOutcome ((S.seen site.old).place spec.now.place) ((S.seen site.new).place spec.now.place)
+        ((S.seen site.old).sink out.now) ((S.seen site.new).sink out.now) result }
+    ensures leaves { LeavesAfter ((S.seen site.old).place spec.now.place) ((S.seen site.new).place spec.now.place)
+        ((S.seen site.old).sink out.now) ((S.seen site.new).sink out.now) result }
+    ensures others { ChangesPlaceAndSink spec.now.place out.now (S.seen site.old) (S.seen site.new) }
+{
+    let mut source = match site.open_source(spec) {
+        Ok(source) => source,
+        Err(OutsideFault::Failed) => return Outcome::NoSource,
+        Err(OutsideFault::NoMemory) => return Outcome::Memory,
+    };
+    let mut sink = match site.open_sink(out) {
+        Ok(sink) => sink,
+        Err(OutsideFault::Failed) => {
+            site.back_source(spec, source);
+            return Outcome::NoSink;
+        }
+        Err(OutsideFault::NoMemory) => {
+            site.back_source(spec, source);
+            return Outcome::Memory;
+        }
+    };
+    let outcome = run_open(alloc, &mut source, &mut sink);
+    site.back_sink(out, sink);
+    site.back_source(spec, source);
+    outcome
+}
+
+/// The status of a run in which the reading ended so, and the sink failed or not: memory before a limit, that
+/// before the sink's fault, and that before the source's.
+fn run_status(end: ReadEnd, sink_failed: bool) -> u8
+    ensures { result ≡ run_status end sink_failed }
+{
+    match end {
+        ReadEnd::Memory => 6,
+        ReadEnd::Limit => 5,
+        ReadEnd::Fault => { if sink_failed { 4 } else { 3 } }
+        ReadEnd::End => { if sink_failed { 4 } else { 0 } }
+    }
+}
+
+/// The status of a run after a line could not be printed: of what was wanted or failed, the first of 6, 5 and 4.
+fn silent_status(status: u8, fault: OutsideFault) -> u8
+    ensures { result ≡ silent_status status fault }
+{
+    match fault {
+        OutsideFault::NoMemory => 6,
+        OutsideFault::Failed => { if status < 5 { 4 } else { status } }
+    }
+}
+
+/// Prints the line of an input whose reading ended so, if it has one.
+fn tell_end<S: Site>(site: &mut S, end: ReadEnd) -> Result<(), OutsideFault>
+    ensures others { ChangesSay (S.seen site.old) (S.seen site.new) }
+    ensures counts { Counts (S.seen site.old).say.faults (S.seen site.new).say.faults result }
+{
+    match end {
+        ReadEnd::End => Ok(()),
+        ReadEnd::Fault => site.say(b"source fault: in\n"),
+        ReadEnd::Limit => site.say(b"limit: in\n"),
+        ReadEnd::Memory => site.say(b"memory\n"),
+    }
+}
+
+/// Prints the lines of a run, and answers its status.
+fn report<S: Site>(site: &mut S, end: ReadEnd, sink_failed: bool) -> u8
+    ensures others { ChangesSay (S.seen site.old) (S.seen site.new) }
+    ensures status { ReportsStatus (run_status end sink_failed) (S.seen site.old).say (S.seen site.new).say result }
+{
+    let status = run_status(end, sink_failed);
+    if let Err(fault) = tell_end(site, end) {
+        return silent_status(status, fault);
+    }
+    if sink_failed {
+        if let Err(fault) = site.say(b"sink fault: out\n") {
+            return silent_status(status, fault);
+        }
+    }
+    status
+}
+
+/// Prints the line of a call that was refused before its run, whose status stays.
+fn refuse<S: Site>(site: &mut S, line: &[u8], status: u8) -> u8
+    ensures others { ChangesSay (S.seen site.old) (S.seen site.new) }
+    ensures status { result ≡ status }
+{
+    let _ = site.say(line);
+    status
+}
+
+/// Reads the file at `place` and writes a JSON line for each of its records to `out`.
+///
+/// The status is 0 where that is done; 2 where the file has a form that isn't built yet; 3 where the source failed;
+/// 4 where the sink or the printing failed; 5 where the source gave 2^48 answers without an end; 6 where memory was
+/// wanted.
+pub fn direct_run<S: Site>(alloc: Global, place: &str, out: &str, site: &mut S) -> u8
+    ensures runs { RunsDirect place.now out.now (S.seen site.old) (S.seen site.new) result }
+    ensures leaves { Leaves ((S.seen site.old).place place.now) ((S.seen site.new).place place.now)
+        ((S.seen site.old).sink out.now) ((S.seen site.new).sink out.now) result }
+    ensures completes { Completes ((S.seen site.old).place place.now) ((S.seen site.new).place place.now)
+        ((S.seen site.old).sink out.now) ((S.seen site.new).sink out.now) (S.seen site.old).say (S.seen site.new).say result }
+{
+    let Ok(spec) = input_spec(alloc, place) else {
+        return 6;
+    };
+    match run_named(alloc, &spec, out, site) {
+        Outcome::Memory => refuse(site, b"memory\n", 6),
+        Outcome::NoSource => refuse(site, b"source fault: in\n", 3),
+        Outcome::NoSink => refuse(site, b"sink fault: out\n", 4),
+        Outcome::NotBuilt(_) => refuse(site, b"not built\n", 2),
+        Outcome::Written(end) => report(site, end, false),
+        Outcome::SinkFailed(end) => report(site, end, true),
+    }
+}

@@ -1,0 +1,2 @@
+pub mod KnownTables
+pub mod ApartLemmas

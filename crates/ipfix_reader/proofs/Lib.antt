@@ -1,0 +1,3 @@
+pub mod SpecifierLemmas
+pub mod LeftLemmas
+pub mod WalkLemmas

@@ -1,0 +1,5 @@
+pub mod Specifiers
+pub mod Walk
+pub mod Octets
+pub mod Left
+pub mod DefinedIds

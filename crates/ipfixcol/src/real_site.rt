@@ -1,0 +1,131 @@
+// The files of the system as a Site.
+ghost use Rattle.std.specs.Prelude.{◌≡◌, ◌≢◌, ◌≤◌, ℕ, List, IfOk, IsOk, length};
+ghost use Rattle.site_io.specs.Seen.{ChangesText, ChangesPlace, ReadsText, OpensSource};
+ghost use Rattle.site_io.specs.Tally.{nothing, tally_at};
+ghost use Rattle.ipfixcol.specs.RealSite.{real_seen, untold_text, untold_place, untold_sink};
+
+use crate::limited::read_limited;
+use col_base::{Octets, Transport};
+use site_io::tally::{self, Tallies};
+use site_io::{InputSpec, OutsideFault, ReadSource, Site, WriteSink, count_up, write_piece};
+use std::alloc::Global;
+use std::rt::Files;
+use std::{fs, io};
+
+/// Texts and sources are files that are read, sinks are files that are made anew, and what is said goes to
+/// standard output. It tells no contents, and counts exactly. What is out can't be opened a second time.
+#[derive(Drop)]
+pub struct RealSite<'a, R: Files + Print> {
+    rt: &'a R,
+    alloc: Global,
+    texts: Tallies,
+    places: Tallies,
+    sinks: Tallies,
+    say_faults: u64,
+}
+
+impl<'a, R: Files + Print> RealSite<'a, R> {
+    /// The Site of a runtime, with nothing counted. It takes no memory.
+    pub fn new(rt: &'a R, alloc: Global) -> Self
+        ensures texts { (name : List ℕ) → tally_at result.texts name ≡ nothing }
+        ensures places { (name : List ℕ) → tally_at result.places name ≡ nothing }
+        ensures sinks { (name : List ℕ) → tally_at result.sinks name ≡ nothing }
+        ensures said { result.say_faults ≡ 0 }
+    {
+        RealSite {
+            rt,
+            alloc,
+            texts: tally::none(alloc),
+            places: tally::none(alloc),
+            sinks: tally::none(alloc),
+            say_faults: 0,
+        }
+    }
+}
+
+/// The octets of a file.
+fn read_file<R: Files>(rt: &R, alloc: Global, name: &str) -> Result<Octets, OutsideFault>
+    ensures { IfOk result (λ octets. length octets ≤ 16777216) }
+{
+    match fs::open(rt, name) {
+        Ok(file) => read_limited(alloc, file),
+        Err(_) => Err(OutsideFault::Failed),
+    }
+}
+
+impl<R: Files + Print> Site for RealSite<'_, R>
+where
+    R::File: Send,
+{
+    type Src = ReadSource<R::File>;
+
+    type Out = WriteSink<R::File>;
+
+    ghost seen = { λ site. real_seen site.texts site.places site.sinks site.say_faults };
+
+    /// Failed is a file of more than 16,777,216 octets, and one that can't be read.
+    fn text(&mut self, name: &str) -> Result<Octets, OutsideFault> {
+        tally::add(self.alloc, &mut self.texts, name)?;
+        let answer = read_file(self.rt, self.alloc, name);
+        if let Err(OutsideFault::Failed) = &answer {
+            tally::refused(&mut self.texts, name);
+        }
+        answer
+    }
+
+    /// Failed is a transport other than files, and a file that can't be opened.
+    fn open_source(&mut self, spec: &InputSpec) -> Result<ReadSource<R::File>, OutsideFault> {
+        let place = spec.place.as_str();
+        tally::add(self.alloc, &mut self.places, place)?;
+        if spec.transport != Transport::File || tally::is_out(&self.places, place) {
+            tally::refused(&mut self.places, place);
+            return Err(OutsideFault::Failed);
+        }
+        match fs::open(self.rt, place) {
+            Ok(file) => {
+                tally::went_out(&mut self.places, place);
+                Ok(ReadSource::new(file))
+            }
+            Err(_) => {
+                tally::refused(&mut self.places, place);
+                Err(OutsideFault::Failed)
+            }
+        }
+    }
+
+    fn back_source(&mut self, spec: &InputSpec, source: ReadSource<R::File>) {
+        tally::came_back(&mut self.places, spec.place.as_str(), source.has_failed());
+    }
+
+    /// Failed is a file that can't be made.
+    fn open_sink(&mut self, name: &str) -> Result<WriteSink<R::File>, OutsideFault> {
+        tally::add(self.alloc, &mut self.sinks, name)?;
+        if tally::is_out(&self.sinks, name) {
+            tally::refused(&mut self.sinks, name);
+            return Err(OutsideFault::Failed);
+        }
+        match fs::create(self.rt, name) {
+            Ok(file) => {
+                tally::went_out(&mut self.sinks, name);
+                Ok(WriteSink::new(file))
+            }
+            Err(_) => {
+                tally::refused(&mut self.sinks, name);
+                Err(OutsideFault::Failed)
+            }
+        }
+    }
+
+    fn back_sink(&mut self, name: &str, sink: WriteSink<R::File>) {
+        tally::came_back(&mut self.sinks, name, sink.has_failed());
+    }
+
+    fn say(&mut self, piece: &[u8]) -> Result<(), OutsideFault> {
+        if write_piece(&mut io::writer(self.rt), piece) {
+            Ok(())
+        } else {
+            self.say_faults = count_up(self.say_faults);
+            Err(OutsideFault::Failed)
+        }
+    }
+}

@@ -1,0 +1,4 @@
+mod KnownBytes
+pub mod NamedRows
+mod PlaceLemmas
+mod SinkLemmas

@@ -1,0 +1,2 @@
+pub mod DefinedLemmas
+pub mod MeaningLemmas

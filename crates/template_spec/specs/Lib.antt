@@ -1,0 +1,4 @@
+pub mod Valid
+pub mod Meaning
+pub mod Defined
+pub mod Times

@@ -1,0 +1,4 @@
+pub mod KnownTexts
+pub mod DifferentLemmas
+pub mod LineLemmas
+pub mod StringLemmas

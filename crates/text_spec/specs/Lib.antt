@@ -1,0 +1,10 @@
+pub mod Number
+pub mod Marks
+pub mod Value
+pub mod Name
+pub mod Fields
+pub mod Json
+pub mod View
+pub mod Builtin
+pub mod Examples
+pub mod Laws

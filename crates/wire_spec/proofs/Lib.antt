@@ -1,0 +1,17 @@
+pub mod OptionLemmas
+pub mod NumberLemmas
+pub mod RowLemmas
+pub mod TemplateLemmas
+pub mod ExitLemmas
+pub mod ApartLemmas
+pub mod BeginsLemmas
+pub mod ValueLemmas
+pub mod RecordLemmas
+pub mod UniqueLemmas
+pub mod LeftLemmas
+pub mod FieldLemmas
+pub mod StreamLemmas
+pub mod DefinitionLemmas
+pub mod ContentLemmas
+pub mod DecideLemmas
+pub mod ExampleLemmas

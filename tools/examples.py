@@ -1,0 +1,255 @@
+#!/usr/bin/env python3
+"""Writes the example messages: as definitions with what they say, as their proofs, and as IPFIX Files.
+
+Run at the top of the repository: python3 tools/examples.py && (cd crates/wire_spec && rt fmt)
+"""
+
+import os
+
+MESSAGES = {
+    "one_flow": (
+        "a template of three fields, and one record of it",
+        "000a0034 00000064 00000000 00000001 00020014 01000003 00080004 000c0004 00010004"
+        " 01000010 0a000001 0a000002 000003e8",
+    ),
+    "padded_flow": (
+        "the same with three octets of padding behind the record",
+        "000a0037 00000064 00000000 00000001 00020014 01000003 00080004 000c0004 00010004"
+        " 01000013 0a000001 0a000002 000003e8 000000",
+    ),
+    "two_flows": (
+        "the same with the record a second time",
+        "000a0040 00000064 00000000 00000001 00020014 01000003 00080004 000c0004 00010004"
+        " 0100001c 0a000001 0a000002 000003e8 0a000001 0a000002 000003e8",
+    ),
+    "variable_names": (
+        "a name of variable length in both forms, and a set whose name runs over the end",
+        "000a0030 00000064 00000000 00000001 0002000c 01000001 0052ffff 0100000e 03616263"
+        " ff0003616263 01000006 0561",
+    ),
+    "empty_template": (
+        "a template whose shortest record has no octet",
+        "000a001c 00000064 00000000 00000001 0002000c 01000001 00010000",
+    ),
+    "withdrawal": (
+        "the withdrawal of a template",
+        "000a0018 00000064 00000001 00000001 00020008 01000000",
+    ),
+    "data_alone": (
+        "a record without a template",
+        "000a0020 00000064 00000001 00000001 01000010 0a000001 0a000002 000003e8",
+    ),
+    "first_template": (
+        "a template of a source address, and one record",
+        "000a0024 00000064 00000000 00000001 0002000c 01000001 00080004 01000008 0a000001",
+    ),
+    "second_template": (
+        "a template of the same ID of a destination address, and one record",
+        "000a0024 00000064 00000000 00000001 0002000c 01000001 000c0004 01000008 0a000002",
+    ),
+    "two_templates": (
+        "both, one after the other",
+        "000a0038 00000064 00000000 00000001 0002000c 01000001 00080004 01000008 0a000001"
+        " 0002000c 01000001 000c0004 01000008 0a000002",
+    ),
+    "repeated_element": (
+        "an element that stands twice around one of an enterprise",
+        "000a0036 00000064 00000000 00000001 00020018 01000003 00010004 80070002 00000009"
+        " 00010004 0100000e 00000005 abcd 00000006",
+    ),
+    "options": (
+        "an options template with a scope field, two octets of padding, and one record",
+        "000a0030 00000064 00000000 00000001 00030014 01010002 0001 00950004 000a0004 0000"
+        " 0101000c 00000001 00000007",
+    ),
+}
+MESSAGES = {name: (about, bytes.fromhex(text.replace(" ", ""))) for name, (about, text) in MESSAGES.items()}
+
+KINDS = {2: "Template", 3: "Options"}
+TEMPLATE_RECORD = "record { front = lit≤ tt; unbroken = refl; whole = refl }"
+
+
+def number(octets, at, count=2):
+    return int.from_bytes(octets[at : at + count], "big")
+
+
+def listed(items):
+    return "(" + "".join(f"{item} ∷ " for item in items) + "[])"
+
+
+def paired(items):
+    text = "tt"
+    for item in reversed(items):
+        text = f"({item}, {text})"
+    return text
+
+
+def sets_of(message):
+    at, sets = 16, []
+    while at < len(message):
+        size = number(message, at + 2)
+        sets.append(message[at : at + size])
+        at += size
+    return sets
+
+
+def template_records_of(octets):
+    """The template records of a set as (octets, ID, field count, scope count, fields), and its padding."""
+    at, records = 4, []
+    while len(octets) - at >= 4 and any(octets[at:]):
+        start, count, scope, fields = at, number(octets, at + 2), 0, []
+        at += 4
+        if count and number(octets, 0) == 3:
+            scope = number(octets, at)
+            at += 2
+        for _ in range(count):
+            enterprise = number(octets, at) & 0x8000
+            pen = number(octets, at + 4, 4) if enterprise else 0
+            fields.append((pen, number(octets, at) & 0x7FFF, number(octets, at + 2)))
+            at += 8 if enterprise else 4
+        records.append((octets[start:at], number(octets, start), count, scope, fields))
+    return records, octets[at:]
+
+
+def touch(kind, record):
+    _, identifier, count, scope, fields = record
+    if count:
+        specs = listed(f"(record {{ pen = {pen}; id = {element}; len = {length} }})" for pen, element, length in fields)
+        return f"(Define {identifier} (record {{ kind = {kind}; scope = {scope}; fields = {specs} }}))"
+    return f"(WithdrawAll {kind})" if identifier < 256 else f"(Withdraw {identifier})"
+
+
+def row(end, each):
+    return f"record {{ end = {listed(end)}; whole = refl; each = {paired(each)}; ends = refl }}"
+
+
+def said(message):
+    """What a message says, and the proof that it is a message that says this."""
+    parts, are, say = [], [], []
+    for octets in sets_of(message):
+        identifier = number(octets, 0)
+        if identifier in KINDS:
+            records, padding = template_records_of(octets)
+            rows = f"{listed(listed(record[0]) for record in records)}, {row(padding, [TEMPLATE_RECORD] * len(records))}"
+            parts.append(f"(Touches {listed(touch(KINDS[identifier], record) for record in records)})")
+            are.append(f"record {{ unbroken = refl; whole = refl; body = ({rows}) }}")
+            say.append(f"({rows}, refl)")
+        else:
+            parts.append(f"(Body {identifier} {listed(octets[4:])})")
+            are.append("record { unbroken = refl; whole = refl; body = tt }")
+            say.append("refl")
+    says = (
+        f"record {{ export = {number(message, 4, 4)}; sequence = {number(message, 8, 4)};"
+        f" domain = {number(message, 12, 4)}; parts = {listed(parts)} }}"
+    )
+    proof = (
+        "record {\n"
+        f"  sets = {listed(listed(octets) for octets in sets_of(message))};\n"
+        f"  are = record {{ unbroken = refl; body = {row(b'', are)} }};\n"
+        f"  parts = {paired(say)};\n"
+        "  export = refl;\n  sequence = refl;\n  domain = refl;\n}"
+    )
+    return says, proof
+
+
+EMPTY_FAULT = """record { kind = EmptyRecord; at = 0 }"""
+
+
+def empty_template_proof(octets):
+    body = octets[20:]
+    inner = (
+        f"record {{ before = []; rest = {listed(body)}; whole = refl; each = tt; own = {EMPTY_FAULT};"
+        " breaks = record { some = refl; broken = refl }; is = refl }"
+    )
+    outer = (
+        f"record {{ before = []; rest = {listed(octets[16:])}; whole = refl; each = tt;"
+        f" own = record {{ kind = EmptyRecord; at = 4 }}; breaks = ({EMPTY_FAULT}, {inner}, refl); is = refl }}"
+    )
+    return f"(record {{ kind = EmptyRecord; at = 4 }}, {outer}, refl)"
+
+
+def write(path, text):
+    with open(path, "w") as file:
+        file.write(text)
+
+
+def write_definitions():
+    specs = [
+        """-- Example messages, and what they say. This file is written by tools/examples.py.
+use Rattle.std.specs.Prelude.{ℕ, List, [], ◌∷◌}
+use Rattle.col_base.specs.declared.base.Kind.TheVariants.{Template, Options}
+use Rattle.wire_spec.specs.Content.{Message}
+use Rattle.wire_spec.specs.Content.Touch.{Define, Withdraw}
+use Rattle.wire_spec.specs.Content.Part.{Touches, Body}
+"""
+    ]
+    proofs = [
+        """-- The example messages say what they say. This file is written by tools/examples.py.
+use Rattle.std.proofs.Common.{[], ◌∷◌, refl, lit≤}
+use Rattle.wire_spec.specs.declared.malformed.MalformedKind.TheVariants.{EmptyRecord}
+use Rattle.wire_spec.specs.Message.{FirstFault}
+use Rattle.wire_spec.specs.Content.{Says}
+use Rattle.wire_spec.specs.Examples.{%s}
+"""
+        % ", ".join(
+            name if name == "empty_template" else f"{name}, {name}_message" for name in MESSAGES
+        )
+    ]
+    for name, (about, octets) in MESSAGES.items():
+        specs.append(f"-- {about}\nabbrev pub {name} : List ℕ\n{name} = {listed(octets)[1:-1]}\n")
+        if name == "empty_template":
+            proofs.append(
+                "pub empty_template_breaks : FirstFault empty_template (record { kind = EmptyRecord; at = 20 })\n"
+                f"empty_template_breaks = {empty_template_proof(octets)}\n"
+            )
+            continue
+        says, proof = said(octets)
+        specs.append(f"abbrev pub {name}_message : Message\n{name}_message = {says}\n")
+        proofs.append(f"pub {name}_says : Says {name} {name}_message\n{name}_says = {proof}\n")
+    write("crates/wire_spec/specs/Examples.antt", "\n".join(specs))
+    write("crates/wire_spec/proofs/ExampleLemmas.antt", "\n".join(proofs))
+
+
+def hundred_flows():
+    """Ten messages with ten records each, of templates whose octet counts have 1 to 8 octets."""
+
+    def template_set(lengths):
+        records = b"".join(
+            (255 + length).to_bytes(2, "big") + bytes([0, 3, 0, 8, 0, 4, 0, 12, 0, 4, 0, 1, 0, length])
+            for length in lengths
+        )
+        return bytes([0, 2]) + (4 + len(records)).to_bytes(2, "big") + records
+
+    def flow(index, length):
+        source = bytes([10, 0, index // 10, 1 + index % 10])
+        destination = bytes([192, 0, 2, 1 + index * 7 % 250])
+        return source + destination + (1000 + index * 2654435761 % 2 ** (8 * length - 1)).to_bytes(16, "big")[16 - length :]
+
+    def data_set(first, length):
+        records = b"".join(flow(index, length) for index in range(first, first + 5))
+        return (255 + length).to_bytes(2, "big") + (4 + len(records)).to_bytes(2, "big") + records
+
+    templates = {0: range(1, 5), 2: range(5, 9), 4: range(1, 5), 7: range(1, 9)}
+    lengths = [1, 4, 2, 3, 8, 4, 5, 6, 4, 7, 1, 8, 4, 2, 3, 4, 6, 8, 5, 7]
+    file = b""
+    for index in range(10):
+        sets = template_set(templates[index]) if index in templates else b""
+        for half in range(2):
+            sets += data_set(10 * index + 5 * half, lengths[2 * index + half])
+        header = [(2, 10), (2, 16 + len(sets)), (4, 1_000_000_000 + 60 * index), (4, 10 * index), (4, 1)]
+        file += b"".join(value.to_bytes(size, "big") for size, value in header) + sets
+    return file
+
+
+def write_files():
+    os.makedirs("examples", exist_ok=True)
+    for name, (_, octets) in MESSAGES.items():
+        with open(f"examples/{name}.ipfix", "wb") as file:
+            file.write(octets)
+    with open("examples/hundred_flows.ipfix", "wb") as file:
+        file.write(hundred_flows())
+
+
+if __name__ == "__main__":
+    write_definitions()
+    write_files()
