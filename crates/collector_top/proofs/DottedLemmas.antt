@@ -11,7 +11,7 @@ use Rattle.std.proofs.lemmas.Slice.Eq.{bytes_eq-Decides}
 use Rattle.std.proofs.lemmas.Bool.{and_parts, cases_Bool, both_ways, eq-eqb, eqb-true}
 use Rattle.text_spec.specs.Marks.{quote, dot}
 use Rattle.text_spec.specs.Value.{quoted}
-use Rattle.collector_top.specs.Plain.{octet_digits, marked, dotted}
+use Rattle.collector_top.specs.Plain.{octet_digits, dotted}
 
 -- so many numbers have their digits
 have_digits : ℕ → Bool

@@ -1,16 +1,16 @@
 -- What a run leaves at its place and its sink name.
-use Rattle.std.proofs.Common.{◌≡◌, ℕ, ◌<◌, ◌^◌, inl, inr, Bool, false, List, [], ◌++◌, length, Option, Some, None, refl, ap, sym, subst, ◌∙◌, arith, append-nil}
+use Rattle.std.proofs.Common.{◌≡◌, ℕ, inl, inr, List, [], ◌++◌, Option, Some, None, refl, ap, sym, subst, ◌∙◌, append-nil}
 use Rattle.std.specs.Prelude.{IfSome, IsSome}
 use Rattle.arrival_spec.specs.declared.event.Scripted.{Scripted}
 use Rattle.run_spec.specs.Result.{IsFileText}
-use Rattle.site_io.specs.Seen.{Seen, PlaceSeen, SinkSeen, SaidSeen, ChangesSay}
+use Rattle.site_io.specs.Seen.{PlaceSeen, SinkSeen}
 use Rattle.site_io.specs.Writes.{Grows}
 use Rattle.collector_top.specs.declared.reading.ReadEnd.{ReadEnd}
 use Rattle.collector_top.specs.declared.reading.ReadEnd.TheVariants as end
 use Rattle.collector_top.specs.declared.direct.Outcome.{Outcome}
 use Rattle.collector_top.specs.declared.direct.Outcome.TheVariants as outcome
 use Rattle.collector_top.specs.Reading.{TakenFrom, IsNothingLeft}
-use Rattle.collector_top.specs.Direct.{EndsReading, Comes, Holds, HoldsText, HoldsFront, LeavesAfter, LeavesWanting, Leaves, run_status, ReportsStatus}
+use Rattle.collector_top.specs.Direct.{EndsReading, Comes, Holds, HoldsText, HoldsFront, LeavesAfter}
 
 -- what was taken from a source was taken from its place
 pub place_taken : (old now left now_left : Option (List Scripted)) (given : List Scripted) → IfSome old (λ events. left ≡ Some events) → now ≡ now_left → TakenFrom left now_left given → TakenFrom old now given
@@ -69,42 +69,5 @@ leaves_run place now_place sink now_sink left now_left held now_held outcome.NoS
 leaves_run place now_place sink now_sink left now_left held now_held outcome.NoSink told shown empty tells holds c = absurd c.2
 
 -- what a text shows is a front of it
-whole_front : (sink now_sink : SinkSeen) (given : List Scripted) → HoldsText sink now_sink given → HoldsFront sink now_sink given
+pub whole_front : (sink now_sink : SinkSeen) (given : List Scripted) → HoldsText sink now_sink given → HoldsFront sink now_sink given
 whole_front sink now_sink given h = (h.0, [], subst (λ (t : List ℕ). IsFileText given t) (sym (append-nil h.0)) h.1, h.2)
-
-below_limit : (left now_left : Option (List Scripted)) (given : List Scripted) (e : ReadEnd) (failed : Bool) → run_status e failed < 5 → EndsReading left now_left given e → length given < 2 ^ 48
-below_limit left now_left given end.End failed below r = r.1
-below_limit left now_left given end.Fault failed below r = r
-below_limit left now_left given end.Limit failed below r = absurd (omega arith)
-below_limit left now_left given end.Memory failed below r = absurd r
-
-pub leaves_wanting : (place now_place : PlaceSeen) (sink now_sink : SinkSeen) (status : ℕ) → status ≡ 6 → LeavesWanting place now_place sink now_sink → Leaves place now_place sink now_sink status
-leaves_wanting place now_place sink now_sink status is l = inr (inr (inr (inr (inr (is, l)))))
-
--- the text was written
-written_so : (place now_place : PlaceSeen) (sink now_sink : SinkSeen) (e : ReadEnd) (status : ℕ) → status ≡ run_status e false → LeavesAfter place now_place sink now_sink (outcome.Written e) → Leaves place now_place sink now_sink status
-written_so place now_place sink now_sink end.End status is l = inl (is, l)
-written_so place now_place sink now_sink end.Fault status is l = inr (inr (inl (is, inr l)))
-written_so place now_place sink now_sink end.Limit status is l = inr (inr (inr (inr (inl (is, (l.0, l.1, l.2, l.3, whole_front sink now_sink l.0 l.4))))))
-written_so place now_place sink now_sink end.Memory status is l = absurd l.2
-
-pub leaves_written : (place now_place : PlaceSeen) (sink now_sink : SinkSeen) (e : ReadEnd) (say now_say : SaidSeen) (status : ℕ) → ReportsStatus (run_status e false) say now_say status → LeavesAfter place now_place sink now_sink (outcome.Written e)
-    → Leaves place now_place sink now_sink status
-leaves_written place now_place sink now_sink e say now_say status r l =
-    elim r [
-      | inl is ↦ written_so place now_place sink now_sink e status is l
-      | inr silent ↦
-          elim silent [
-            | inl six ↦ leaves_wanting place now_place sink now_sink status six (l.0, l.1, inr (inr (l.3, whole_front sink now_sink l.0 l.4)))
-            | inr four ↦ inr (inr (inr (inl (four.0, inr (l.0, l.1, below_limit place.left now_place.left l.0 e false four.1 l.2, l.3, whole_front sink now_sink l.0 l.4)))))
-          ]
-    ]
-
--- what is said changes no place and no sink name
-pub leaves_said : (spec place out : List ℕ) (before ran now : Seen) (e : ReadEnd) (status : ℕ) → spec ≡ place → LeavesAfter (before.place spec) (ran.place spec) (before.sink out) (ran.sink out) (outcome.Written e) → ChangesSay ran now
-    → ReportsStatus (run_status e false) ran.say now.say status → Leaves (before.place place) (now.place place) (before.sink out) (now.sink out) status
-leaves_said spec place out before ran now e status same l said r =
-    let here = subst (λ (p : List ℕ). LeavesAfter (before.place p) (ran.place p) (before.sink out) (ran.sink out) (outcome.Written e)) same l in
-    let leaves = leaves_written (before.place place) (ran.place place) (before.sink out) (ran.sink out) e ran.say now.say status r here in
-    subst (λ (f : List ℕ → PlaceSeen). Leaves (before.place place) (f place) (before.sink out) (now.sink out) status) (sym said.places)
-    (subst (λ (f : List ℕ → SinkSeen). Leaves (before.place place) (ran.place place) (before.sink out) (f out) status) (sym said.sinks) leaves)

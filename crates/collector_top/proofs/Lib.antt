@@ -15,4 +15,5 @@ pub mod FileLemmas
 pub mod EventLemmas
 pub mod DirectLemmas
 pub mod LeavesLemmas
+pub mod ReportLemmas
 pub mod DottedLemmas

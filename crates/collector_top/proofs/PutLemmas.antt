@@ -36,6 +36,20 @@ grows_more (Some xs) None c first second p q = absurd p
 grows_more (Some xs) (Some ys) None first second p q = absurd q
 grows_more (Some xs) (Some ys) (Some zs) first second p q = q ∙ (ap (λ l. l ++ second) p ∙ append_assoc xs first second)
 
+-- a front of a text is one of a longer text
+pub front_longer : (old new : Option (List ℕ)) (text more : List ℕ) → GrowsByFront old new text → GrowsByFront old new (text ++ more)
+front_longer old new text more f = record { written = f.written; rest = f.rest ++ more; whole = ap (λ t. t ++ more) f.whole ∙ append_assoc f.written f.rest more; grows = f.grows }
+
+-- a text behind one that was put
+pub puts_behind : (old now new : Option (List ℕ)) (text more : List ℕ) (r : Result (Unit {0}) OutsideFault) → Grows old now text → PutsText now new more r → PutsText old new (text ++ more) r
+puts_behind old now new text more (Ok done) g p = grows_more old now new text more g p
+puts_behind old now new text more (Err f) g p = record {
+  written = text ++ p.written;
+  rest = p.rest;
+  whole = ap (λ t. text ++ t) p.whole ∙ sym (append_assoc text p.written p.rest);
+  grows = grows_more old now new text p.written g p.grows;
+}
+
 -- what is left begins with this item
 left_begins : {X : Type 0} (items : List X) (i : ℕ) (item : X) → i < length items → item ≡ get_or items i item → drop i items ≡ item ∷ drop (i + 1) items
 left_begins items i item lt is = drop-cons items i item lt ∙ (ap (λ x. x ∷ drop (suc i) items) (sym is) ∙ ap (λ j. item ∷ drop j items) (sym (add-one i)))

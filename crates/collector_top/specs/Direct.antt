@@ -1,11 +1,9 @@
 -- What `direct` promises.
-use Rattle.std.specs.Prelude.{ℕ, ◌≡◌, ◌⊎◌, ◌<◌, ◌≤◌, ◌^◌, ◌≢◌, ◌++◌, ⊤, List, [], Option, Some, None, length, Bool, true, false, nat_lt, if◌then◌else◌, MatchOption}
+use Rattle.std.specs.Prelude.{ℕ, ◌≡◌, ◌⊎◌, ◌<◌, ◌≤◌, ◌^◌, ◌≢◌, ◌++◌, ⊤, List, [], Option, Some, None, length, MatchOption}
 use Rattle.arrival_spec.specs.declared.event.Scripted.{Scripted}
 use Rattle.run_spec.specs.Result.{IsFileText}
 use Rattle.site_io.specs.Outside.{Rose, one_more}
 use Rattle.site_io.specs.Seen.{Seen, PlaceSeen, SinkSeen, SaidSeen, ChangesSay}
-use Rattle.site_io.specs.declared.outside.OutsideFault.{OutsideFault}
-use Rattle.site_io.specs.declared.outside.OutsideFault.TheVariants as fault
 use Rattle.site_io.specs.Writes.{Grows}
 use Rattle.collector_top.specs.declared.reading.ReadEnd.{ReadEnd}
 use Rattle.collector_top.specs.declared.reading.ReadEnd.TheVariants as end
@@ -14,6 +12,7 @@ use Rattle.collector_top.specs.declared.direct.Outcome.TheVariants as outcome
 use Rattle.collector_top.specs.Reading.{TakenFrom, IsNothingLeft, ReadCounts}
 use Rattle.collector_top.specs.Put.{GrowsByFront}
 use Rattle.collector_top.specs.FirstForm.{IsFirstForm}
+use Rattle.collector_top.specs.Report.{HasStatus, SaysLines, outcome_text}
 
 -- how the reading ended: at the end nothing is left, and at the limit so many answers were given
 abbrev pub EndsReading : Option (List Scripted) → Option (List Scripted) → List Scripted → ReadEnd → Type 0
@@ -45,8 +44,8 @@ CountsFaults source now_source sink now_sink (outcome.Written e) = ReadCounts so
 CountsFaults source now_source sink now_sink (outcome.SinkFailed e) = ReadCounts source now_source e × (sink ≤ now_sink) × Rose sink now_sink
 CountsFaults source now_source sink now_sink (outcome.NotBuilt e) = ReadCounts source now_source e × (now_sink ≡ sink)
 CountsFaults source now_source sink now_sink outcome.Memory = (source ≤ now_source) × (now_sink ≡ sink)
-CountsFaults source now_source sink now_sink outcome.NoSource = ⊥
-CountsFaults source now_source sink now_sink outcome.NoSink = ⊥
+CountsFaults source now_source sink now_sink outcome.NoSource = (source ≤ now_source) × Rose source now_source × (now_sink ≡ sink)
+CountsFaults source now_source sink now_sink outcome.NoSink = (now_source ≡ source) × (sink ≤ now_sink) × Rose sink now_sink
 
 -- the sink name shows the text of the events that the place was told to have, and the place has none left
 abbrev pub ShowsText : Option (List Scripted) → Option (List Scripted) → Option (List ℕ) → Option (List ℕ) → Type 0
@@ -54,21 +53,9 @@ ShowsText None now_left held now_held = ⊤
 ShowsText (Some events) now_left None now_held = ⊤
 ShowsText (Some events) now_left (Some old) now_held = (text : List ℕ) × IsFileText events text × (now_held ≡ Some text) × (now_left ≡ Some [])
 
--- what the place and the sink name show after each outcome
-abbrev pub ShowsOutcomeAt : PlaceSeen → PlaceSeen → SinkSeen → SinkSeen → Outcome → Type 0
-ShowsOutcomeAt place now_place sink now_sink (outcome.Written end.End) = ShowsText place.left now_place.left sink.held now_sink.held
-ShowsOutcomeAt place now_place sink now_sink (outcome.Written end.Fault) = Rose place.faults now_place.faults
-ShowsOutcomeAt place now_place sink now_sink (outcome.Written e) = ⊤
-ShowsOutcomeAt place now_place sink now_sink (outcome.SinkFailed e) = Rose sink.faults now_sink.faults
-ShowsOutcomeAt place now_place sink now_sink outcome.NoSource = Rose place.faults now_place.faults
-ShowsOutcomeAt place now_place sink now_sink outcome.NoSink = Rose sink.faults now_sink.faults
-ShowsOutcomeAt place now_place sink now_sink (outcome.NotBuilt end.Fault) = Rose place.faults now_place.faults
-ShowsOutcomeAt place now_place sink now_sink (outcome.NotBuilt e) = ⊤
-ShowsOutcomeAt place now_place sink now_sink outcome.Memory = ⊤
-
--- each is opened at most once, and given back
+-- each is opened at most once, and given back, and their counts of faults say what failed
 pub record ShowsOutcome (place now_place : PlaceSeen) (sink now_sink : SinkSeen) (result : Outcome) : Type 0 where
-  pub shows : ShowsOutcomeAt place now_place sink now_sink result
+  pub counts : CountsFaults place.faults now_place.faults sink.faults now_sink.faults result
   pub place_openings : now_place.openings ≤ one_more place.openings
   pub sink_openings : now_sink.openings ≤ one_more sink.openings
   pub place_back : now_place.out ≡ place.out
@@ -81,27 +68,16 @@ pub record ChangesPlaceAndSink (place out : List ℕ) (old new : Seen) : Type 0 
   pub sinks : (other : List ℕ) → other ≢ out → new.sink other ≡ old.sink other
   pub say : new.say ≡ old.say
 
--- of memory, a limit, the sink and the source, the first that came gives the status
-abbrev pub run_status : ReadEnd → Bool → ℕ
-run_status end.Memory failed = 6
-run_status end.Limit failed = 5
-run_status end.Fault true = 4
-run_status end.Fault false = 3
-run_status end.End true = 4
-run_status end.End false = 0
-
--- a line that can't be printed gives 4, unless 5 or 6 came
-abbrev pub silent_status : ℕ → OutsideFault → ℕ
-silent_status status fault.NoMemory = 6
-silent_status status fault.Failed = if nat_lt status 5 then 4 else status
-
--- the status is that of the run, or tells that a line could not be printed
-abbrev pub ReportsStatus : ℕ → SaidSeen → SaidSeen → ℕ → Type 0
-ReportsStatus status say now_say result = (result ≡ status) ⊎ ((result ≡ 6) ⊎ ((result ≡ 4) × (status < 5) × Rose say.faults now_say.faults))
+-- no count of faults has changed
+pub record HasNoFault (place now_place : PlaceSeen) (sink now_sink : SinkSeen) (say now_say : SaidSeen) : Type 0 where
+  pub at_place : now_place.faults ≡ place.faults
+  pub at_sink : now_sink.faults ≡ sink.faults
+  pub at_say : now_say.faults ≡ say.faults
 
 -- what a call of `direct` shows at its place and its sink name, and each status with its cause
 pub record RunsDirect (place out : List ℕ) (old new : Seen) (status : ℕ) : Type 0 where
   pub done : status ≡ 0 → ShowsText (old.place place).left (new.place place).left (old.sink out).held (new.sink out).held
+  pub no_fault : status ≡ 0 → HasNoFault (old.place place) (new.place place) (old.sink out) (new.sink out) old.say new.say
   pub never_usage : status ≡ 1 → ⊥
   pub source_failed : status ≡ 3 → Rose (old.place place).faults (new.place place).faults
   pub sink_failed : status ≡ 4 → Rose (old.sink out).faults (new.sink out).faults ⊎ Rose old.say.faults new.say.faults
@@ -135,6 +111,10 @@ pub record LeavesAll (place now_place : PlaceSeen) (sink now_sink : SinkSeen) : 
 abbrev pub Took : PlaceSeen → PlaceSeen → List Scripted → Type 0
 Took place now_place given = TakenFrom place.left now_place.left given
 
+-- the reading ended where nothing is left, where the source failed, or at the most answers that are taken
+abbrev pub Ended : PlaceSeen → PlaceSeen → List Scripted → Type 0
+Ended place now_place given = IsNothingLeft place.left now_place.left ⊎ (Rose place.faults now_place.faults ⊎ (length given ≡ 2 ^ 48))
+
 -- what each outcome leaves: the place has lost what was given, and the sink name shows what was written
 abbrev pub LeavesAfter : PlaceSeen → PlaceSeen → SinkSeen → SinkSeen → Outcome → Type 0
 LeavesAfter place now_place sink now_sink (outcome.Written e) =
@@ -155,7 +135,7 @@ LeavesDone place now_place sink now_sink =
 
 -- 2: what was given isn't in the first form, and nothing was written
 abbrev pub LeavesNotBuilt : PlaceSeen → PlaceSeen → SinkSeen → SinkSeen → Type 0
-LeavesNotBuilt place now_place sink now_sink = (given : List Scripted) × Took place now_place given × (IsFirstForm given → ⊥) × Holds sink.held now_sink.held []
+LeavesNotBuilt place now_place sink now_sink = (given : List Scripted) × Took place now_place given × Ended place now_place given × (IsFirstForm given → ⊥) × Holds sink.held now_sink.held []
 
 -- 3: the place was not opened, or the text of what was given before the fault was written
 abbrev pub LeavesFault : PlaceSeen → PlaceSeen → SinkSeen → SinkSeen → Type 0
@@ -167,7 +147,7 @@ LeavesFault place now_place sink now_sink =
 abbrev pub LeavesFailed : PlaceSeen → PlaceSeen → SinkSeen → SinkSeen → Type 0
 LeavesFailed place now_place sink now_sink =
     LeavesAll place now_place sink now_sink
-    ⊎ ((given : List Scripted) × Took place now_place given × (length given < 2 ^ 48) × IsFirstForm given × HoldsFront sink now_sink given)
+    ⊎ ((given : List Scripted) × Took place now_place given × Ended place now_place given × (length given < 2 ^ 48) × IsFirstForm given × HoldsFront sink now_sink given)
 
 -- 5: the most answers that are taken were given, and a front of their text was written
 abbrev pub LeavesLimit : PlaceSeen → PlaceSeen → SinkSeen → SinkSeen → Type 0
@@ -196,9 +176,18 @@ Completes place now_place sink now_sink say now_say status =
     → (Rose place.faults now_place.faults → ⊥) → (Rose sink.faults now_sink.faults → ⊥) → (Rose say.faults now_say.faults → ⊥)
     → (status ≡ 0) ⊎ (status ≡ 6)
 
--- a call of `direct` runs, and leaves what its status says
+-- what came of a call gives its status and the lines that it prints
+pub record Reports (place now_place : PlaceSeen) (sink now_sink : SinkSeen) (say now_say : SaidSeen) (status : ℕ) : Type 0 where
+  pub came : Outcome
+  pub leaves : LeavesAfter place now_place sink now_sink came
+  pub counts : CountsFaults place.faults now_place.faults sink.faults now_sink.faults came
+  pub so : HasStatus came say now_say status
+  pub said : SaysLines say now_say status (outcome_text came)
+
+-- a call of `direct` runs, leaves what its status says, and tells what came of it
 pub record Directs (place out : List ℕ) (old new : Seen) (status : ℕ) : Type 0 where
   pub runs : RunsDirect place out old new status
+  pub reports : Reports (old.place place) (new.place place) (old.sink out) (new.sink out) old.say new.say status
   pub leaves : Leaves (old.place place) (new.place place) (old.sink out) (new.sink out) status
   pub completes : Completes (old.place place) (new.place place) (old.sink out) (new.sink out) old.say new.say status
 

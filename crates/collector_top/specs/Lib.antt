@@ -7,5 +7,6 @@ pub mod Stream
 pub mod Put
 pub mod FirstForm
 pub mod Found
+pub mod Report
 pub mod Direct
 pub mod Words

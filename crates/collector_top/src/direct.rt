@@ -1,16 +1,15 @@
 // The command `direct`: one file to JSON lines, on the calling thread.
 ghost use Rattle.std.specs.Prelude.{◌≡◌, ◌≢◌, ◌≤◌, ◌<◌, ◌⊎◌, ◌^◌, ◌↔◌, ℕ, Err, IsTrue, List, IfOk, IfSome, MatchOption, None, map, string_bytes};
 ghost use Rattle.arrival_spec.specs.declared.event.Scripted.{Scripted};
-ghost use Rattle.site_io.specs.Outside.{Counts};
-ghost use Rattle.site_io.specs.Seen.{ChangesSay};
 ghost use Rattle.collector_top.specs.Reading.{TakenFrom};
 ghost use Rattle.collector_top.specs.Stream.{PlansStream};
 ghost use Rattle.collector_top.specs.Found.{IsSomePlainStream};
-ghost use Rattle.collector_top.specs.Direct.{Comes, CountsFaults, ShowsOutcome, ChangesPlaceAndSink, LeavesAfter, RunsDirect, Leaves, Completes, run_status, silent_status, ReportsStatus};
+ghost use Rattle.collector_top.specs.Direct.{Comes, CountsFaults, ShowsOutcome, ChangesPlaceAndSink, LeavesAfter, RunsDirect, Leaves, Reports, Completes};
 
 use crate::plan::PlannedMessage;
 use crate::put::put_messages;
 use crate::reading::{Phase, ReadEnd, Reading, read_all};
+use crate::report::report;
 use crate::stream::plan_stream;
 use col_base::{Octets, Text, Transport};
 use site_io::{InputSpec, OutsideFault, Sink, Site, Source};
@@ -122,68 +121,6 @@ fn run_named<S: Site>(alloc: Global, spec: &InputSpec, out: &str, site: &mut S) 
     outcome
 }
 
-/// The status of a run in which the reading ended so, and the sink failed or not: memory before a limit, that
-/// before the sink's fault, and that before the source's.
-fn run_status(end: ReadEnd, sink_failed: bool) -> u8
-    ensures { result ≡ run_status end sink_failed }
-{
-    match end {
-        ReadEnd::Memory => 6,
-        ReadEnd::Limit => 5,
-        ReadEnd::Fault => { if sink_failed { 4 } else { 3 } }
-        ReadEnd::End => { if sink_failed { 4 } else { 0 } }
-    }
-}
-
-/// The status of a run after a line could not be printed: of what was wanted or failed, the first of 6, 5 and 4.
-fn silent_status(status: u8, fault: OutsideFault) -> u8
-    ensures { result ≡ silent_status status fault }
-{
-    match fault {
-        OutsideFault::NoMemory => 6,
-        OutsideFault::Failed => { if status < 5 { 4 } else { status } }
-    }
-}
-
-/// Prints the line of an input whose reading ended so, if it has one.
-fn tell_end<S: Site>(site: &mut S, end: ReadEnd) -> Result<(), OutsideFault>
-    ensures others { ChangesSay (S.seen site.old) (S.seen site.new) }
-    ensures counts { Counts (S.seen site.old).say.faults (S.seen site.new).say.faults result }
-{
-    match end {
-        ReadEnd::End => Ok(()),
-        ReadEnd::Fault => site.say(b"source fault: in\n"),
-        ReadEnd::Limit => site.say(b"limit: in\n"),
-        ReadEnd::Memory => site.say(b"memory\n"),
-    }
-}
-
-/// Prints the lines of a run, and answers its status.
-fn report<S: Site>(site: &mut S, end: ReadEnd, sink_failed: bool) -> u8
-    ensures others { ChangesSay (S.seen site.old) (S.seen site.new) }
-    ensures status { ReportsStatus (run_status end sink_failed) (S.seen site.old).say (S.seen site.new).say result }
-{
-    let status = run_status(end, sink_failed);
-    if let Err(fault) = tell_end(site, end) {
-        return silent_status(status, fault);
-    }
-    if sink_failed {
-        if let Err(fault) = site.say(b"sink fault: out\n") {
-            return silent_status(status, fault);
-        }
-    }
-    status
-}
-
-/// Prints the line of a call that was refused before its run, whose status stays.
-fn refuse<S: Site>(site: &mut S, line: &[u8], status: u8) -> u8
-    ensures others { ChangesSay (S.seen site.old) (S.seen site.new) }
-    ensures status { result ≡ status }
-{
-    let _ = site.say(line);
-    status
-}
-
 /// Reads the file at `place` and writes a JSON line for each of its records to `out`.
 ///
 /// The status is 0 where that is done; 2 where the file has a form that isn't built yet; 3 where the source failed;
@@ -193,18 +130,14 @@ pub fn direct_run<S: Site>(alloc: Global, place: &str, out: &str, site: &mut S) 
     ensures runs { RunsDirect place.now out.now (S.seen site.old) (S.seen site.new) result }
     ensures leaves { Leaves ((S.seen site.old).place place.now) ((S.seen site.new).place place.now)
         ((S.seen site.old).sink out.now) ((S.seen site.new).sink out.now) result }
+    ensures reports { Reports ((S.seen site.old).place place.now) ((S.seen site.new).place place.now)
+        ((S.seen site.old).sink out.now) ((S.seen site.new).sink out.now) (S.seen site.old).say (S.seen site.new).say result }
     ensures completes { Completes ((S.seen site.old).place place.now) ((S.seen site.new).place place.now)
         ((S.seen site.old).sink out.now) ((S.seen site.new).sink out.now) (S.seen site.old).say (S.seen site.new).say result }
 {
     let Ok(spec) = input_spec(alloc, place) else {
         return 6;
     };
-    match run_named(alloc, &spec, out, site) {
-        Outcome::Memory => refuse(site, b"memory\n", 6),
-        Outcome::NoSource => refuse(site, b"source fault: in\n", 3),
-        Outcome::NoSink => refuse(site, b"sink fault: out\n", 4),
-        Outcome::NotBuilt(_) => refuse(site, b"not built\n", 2),
-        Outcome::Written(end) => report(site, end, false),
-        Outcome::SinkFailed(end) => report(site, end, true),
-    }
+    let outcome = run_named(alloc, &spec, out, site);
+    report(site, outcome)
 }

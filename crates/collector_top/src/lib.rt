@@ -12,6 +12,7 @@ mod line;
 mod plan;
 mod put;
 mod reading;
+mod report;
 mod shape;
 mod stream;
 mod template;

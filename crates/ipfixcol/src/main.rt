@@ -3,6 +3,8 @@
 
 mod limited;
 mod real_site;
+#[cfg(test)]
+mod tests;
 
 use collector_top::collect_main;
 use real_site::RealSite;
