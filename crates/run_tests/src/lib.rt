@@ -3,6 +3,10 @@
 #![tactic(auto)]
 
 #[cfg(test)]
+mod faults;
+#[cfg(test)]
+mod given;
+#[cfg(test)]
 mod messages;
 #[cfg(test)]
 mod runs;

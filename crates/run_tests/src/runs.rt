@@ -1,4 +1,5 @@
 // Runs of `direct`, and words that are refused.
+use crate::given::{FLOW, USAGE, shows, words_of};
 use crate::messages;
 use col_base::{Octets, Text};
 use collector_top::collect_main;
@@ -7,15 +8,9 @@ use std::alloc::Global;
 use std::process::Abort;
 use std::test::Fail;
 
-const FLOW: &str =
-    "{\"@type\":\"ipfix.entry\",\"iana:sourceIPv4Address\":\"10.0.0.1\",\"iana:destinationIPv4Address\":\"10.0.0.2\",\"iana:octetDeltaCount\":1000}\n";
-
 const FROM: &str = "{\"@type\":\"ipfix.entry\",\"iana:sourceIPv4Address\":\"10.0.0.1\"}\n";
 
 const TO: &str = "{\"@type\":\"ipfix.entry\",\"iana:destinationIPv4Address\":\"10.0.0.2\"}\n";
-
-const USAGE: &str =
-    "usage: ipfixcol direct IN OUT, check -c FILE, collect -c FILE, generate NUMBER COUNT\n";
 
 /// A source of one stream of these octets.
 fn source_of(rt: &impl Abort, alloc: Global, octets: &[u8]) -> Result<MemorySource, Fail> {
@@ -45,23 +40,6 @@ fn site_of(alloc: Global, source: MemorySource) -> Result<MemorySite, Fail> {
         sink: MemorySink::new(alloc, Vec::new(alloc)),
     })?;
     Ok(MemorySite::new(alloc, Vec::new(alloc), sources, sinks))
-}
-
-/// These words.
-fn words_of(alloc: Global, words: &[&str]) -> Result<Vec<String>, Fail> {
-    let mut all = Vec::new(alloc);
-    for word in words {
-        all.push(String::from_str(alloc, word)?)?;
-    }
-    Ok(all)
-}
-
-/// Whether the sink of a name shows a text.
-fn shows(site: &MemorySite, name: &str, text: &str) -> bool {
-    match site.shown(name) {
-        Some(octets) => octets == text.as_bytes(),
-        None => false,
-    }
 }
 
 /// Runs `direct IN OUT` on messages, and compares the status, what was printed and what the sink shows.

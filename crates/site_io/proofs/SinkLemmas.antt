@@ -8,8 +8,6 @@ use Rattle.site_io.specs.declared.tally.Tally.{Tally}
 use Rattle.site_io.specs.declared.memory_sink.MemorySink.{MemorySink}
 use Rattle.site_io.specs.declared.rows.NamedSink.{NamedSink}
 use Rattle.site_io.specs.MemoryRows.{sink_at, row_at, sink_of, sink_held, sink_faults}
-use Rattle.site_io.specs.MemorySink.{sink_octets}
-use Rattle.site_io.specs.MemorySite.{shown_of}
 use Rattle.site_io.specs.Seen.{SinkRefuses, SinkComesBack}
 use Rattle.site_io.specs.Tally.{after_refusal, after_return, number_out}
 
@@ -51,16 +49,3 @@ named_sink (octet ∷ name) sinks some = refl
 pub same_sinks : (old new : List NamedSink) → ((other : List ℕ) → other ≢ [] → row_at other new ≡ row_at other old) → (name : List ℕ) → sink_at name new ≡ sink_at name old
 same_sinks old new same [] = refl
 same_sinks old new same (octet ∷ name) = same (octet ∷ name) (λ e. cc)
-
--- a sink that is out is not shown
-pub shown_out : (o : Option MemorySink) (out : Bool) → out ≡ true → shown_of o out ≡ None
-shown_out None out e = refl
-shown_out (Some sink) out e = rw e
-
--- a sink that is not there is not shown
-pub shown_none : (o : Option MemorySink) (out : Bool) → o ≡ None → shown_of o out ≡ None
-shown_none o out e = rw e
-
--- a sink that is there and in is shown
-pub shown_in : (o : Option MemorySink) (out : Bool) (sink : MemorySink) → o ≡ Some sink → out ≡ false → shown_of o out ≡ Some (sink_octets sink)
-shown_in o out sink e f = rw (e, f)

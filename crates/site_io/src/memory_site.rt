@@ -5,12 +5,13 @@ ghost use Rattle.site_io.specs.MemoryRows.{text_of, place_of, sink_of, octets_at
 ghost use Rattle.site_io.specs.MemorySink.{sink_octets, planned_fails, writes_made};
 ghost use Rattle.site_io.specs.Tally.{nothing};
 
-use crate::places::{back_place, open_place};
+use crate::places::{back_place, open_place, source_named};
 use crate::rows::{NamedSink, NamedSource, NamedText};
 use crate::sinks::{back_sink, open_sink, sink_named};
 use crate::tally::{self, Tallies};
 use crate::texts::read_text;
 use crate::{InputSpec, MemorySink, MemorySource, OutsideFault, Sink, Site, named};
+use arrival_spec::Scripted;
 use col_base::Octets;
 use std::alloc::Global;
 
@@ -47,7 +48,7 @@ fn printed_of(alloc: Global, sinks: &mut [NamedSink]) -> MemorySink
 }
 
 impl MemorySite {
-    ghost use Rattle.site_io.specs.MemorySite.{site_seen, said_first, shown_at};
+    ghost use Rattle.site_io.specs.MemorySite.{site_seen, said_first, shown_at, left_at};
 
     /// A Site of these texts, sources and sinks. It takes no memory.
     pub fn new(
@@ -80,7 +81,7 @@ impl MemorySite {
         }
     }
 
-    #[tactic(auto, using(crate::proofs::SinkLemmas::shown_none, crate::proofs::SinkLemmas::shown_out))]
+    #[tactic(auto, using(crate::proofs::SeenLemmas::seen_none, crate::proofs::SeenLemmas::seen_out))]
     /// What the sink of that name holds, None exactly where no sink has the name or it is out. It takes no memory.
     pub fn shown(&self, name: &str) -> Option<&[u8]>
         ensures shown { option_map (λ octets. octets.now) result ≡ shown_at self.now name.now }
@@ -93,6 +94,38 @@ impl MemorySite {
             Some(sink) => Some(sink.as_slice()),
             None => None,
         }
+    }
+
+    #[tactic(auto, using(crate::proofs::SeenLemmas::seen_none, crate::proofs::SeenLemmas::seen_out))]
+    /// The events that the source at that place has left, None exactly where no source is there or it is out. It
+    /// takes no memory.
+    pub fn left(&self, place: &str) -> Option<&[Scripted]>
+        ensures shown { option_map (λ events. events.now) result ≡ left_at self.now place.now }
+        ensures left { IfSome result (λ events. ((site_seen self.now).place place.now).left ≡ Some events.now) }
+    {
+        if tally::is_out(&self.place_tallies, place) {
+            return None;
+        }
+        match source_named(&self.sources, place) {
+            Some(source) => Some(source.as_slice()),
+            None => None,
+        }
+    }
+
+    /// How many calls opened that place, those that failed too, but none that wanted memory.
+    #[tactic(auto, using(crate::proofs::SeenLemmas::place_opened))]
+    pub fn place_openings(&self, place: &str) -> u64
+        ensures { result ≡ ((site_seen self.now).place place.now).openings }
+    {
+        tally::openings(&self.place_tallies, place)
+    }
+
+    /// How many calls opened that sink name, those that failed too, but none that wanted memory.
+    #[tactic(auto, using(crate::proofs::SeenLemmas::sink_opened))]
+    pub fn sink_openings(&self, name: &str) -> u64
+        ensures { result ≡ ((site_seen self.now).sink name.now).openings }
+    {
+        tally::openings(&self.sink_tallies, name)
     }
 
     /// What was said. It takes no memory.

@@ -1,5 +1,6 @@
 // The places of a Site in memory.
 ghost use Rattle.std.specs.Prelude.{◌≡◌, ◌≢◌, ◌<◌, ℕ, List, IfOk};
+ghost use Rattle.std.specs.Option.{option_map};
 ghost use Rattle.site_io.specs.Seen.{OpensSource, SourceComesBack};
 ghost use Rattle.site_io.specs.MemoryRows.{place_seen, source_at, source_left, source_faults, SamePlan, IsIn, AnswersBy};
 ghost use Rattle.site_io.specs.Tally.{tally_at};
@@ -8,6 +9,16 @@ use crate::rows::NamedSource;
 use crate::tally::{self, Tallies};
 use crate::{MemorySource, OutsideFault, named};
 use std::alloc::Global;
+
+/// The first source at that place.
+pub fn source_named<'a>(sources: &'a [NamedSource], place: &str) -> Option<&'a MemorySource>
+    ensures { option_map (λ source. source.now) result ≡ source_at place.now sources.now }
+{
+    match named::find(sources, place) {
+        Some(at) => Some(&sources[at].source),
+        None => None,
+    }
+}
 
 /// The first source at that place goes out. Failed is counted, and comes where no source is there or it is out.
 pub fn open_place(
