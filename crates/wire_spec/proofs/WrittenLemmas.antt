@@ -12,8 +12,9 @@ use Rattle.wire_spec.specs.Content.{field_of, fields_of}
 use Rattle.wire_spec.specs.Specifiers.{DefineRecords, IsField, two_octets, four_octets, specifier, specifiers}
 use Rattle.wire_spec.proofs.DefinitionLemmas.{shortest_of_fields}
 
-same_field : (f g : FieldSpec) → f.pen ≡ g.pen → f.id ≡ g.id → f.len ≡ g.len → f ≡ g
-same_field f g p i l =
+-- fields with the same numbers are one
+pub equal_fields : (f g : FieldSpec) → f.pen ≡ g.pen → f.id ≡ g.id → f.len ≡ g.len → f ≡ g
+equal_fields f g p i l =
     let a : f ≡ record f { pen = g.pen } = ap (λ (x : ℕ). record f { pen = x }) p in
     let b : record f { pen = g.pen } ≡ record g { len = f.len } = ap (λ (x : ℕ). record g { id = x; len = f.len }) i in
     let c : record g { len = f.len } ≡ g = ap (λ (x : ℕ). record g { len = x }) l in
@@ -36,7 +37,7 @@ plain id len x i l =
     let e : be16_at 0 o ≡ id = omega arith in
     let t : nat_lt (be16_at 0 o) 32768 ≡ true = lt-ltb _ 32768 (omega arith) in
     record {
-      field = same_field (field_of o) (record { pen = 0; id = id; len = len }) (cond-true _ 0 (be32_at 4 o) t) (ap (λ n. n % 32768) e ∙ mod_small id i) (omega arith);
+      field = equal_fields (field_of o) (record { pen = 0; id = id; len = len }) (cond-true _ 0 (be32_at 4 o) t) (ap (λ n. n % 32768) e ∙ mod_small id i) (omega arith);
       size_is = cond-true _ 4 8 t;
     }
 
@@ -47,7 +48,7 @@ marked pen id len x p i l =
     let e : be16_at 0 o ≡ 32768 + id = omega arith in
     let t : nat_lt (be16_at 0 o) 32768 ≡ false = le-ltb _ 32768 (omega arith) in
     record {
-      field = same_field (field_of o) (record { pen = pen; id = id; len = len }) (cond-false _ 0 (be32_at 4 o) t ∙ omega arith) (ap (λ n. n % 32768) e ∙ mod_high id i) (omega arith);
+      field = equal_fields (field_of o) (record { pen = pen; id = id; len = len }) (cond-false _ 0 (be32_at 4 o) t ∙ omega arith) (ap (λ n. n % 32768) e ∙ mod_high id i) (omega arith);
       size_is = cond-false _ 4 8 t;
     }
 
@@ -56,7 +57,7 @@ written : (f : FieldSpec) (x : List ℕ) → IsField f → Begin f (specifier f 
 written f x w =
     elim (cases_Bool (nat_eq f.pen 0)) [
       | inl t ↦
-          (let z : record { pen = 0; id = f.id; len = f.len } ≡ f = same_field _ f (sym (eqb-true f.pen 0 t)) refl refl in
+          (let z : record { pen = 0; id = f.id; len = f.len } ≡ f = equal_fields _ f (sym (eqb-true f.pen 0 t)) refl refl in
           rw t (subst (λ (g : FieldSpec). Begin g ((two_octets f.id ++ two_octets f.len) ++ x) 4) z (plain f.id f.len x w.id w.len)))
       | inr t ↦ rw t (marked f.pen f.id f.len x w.pen w.id w.len)
     ]
