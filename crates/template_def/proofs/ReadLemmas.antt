@@ -13,8 +13,8 @@ use Rattle.wire_spec.specs.Specifiers.{DefineRecords, AreWellFormed, IsField, sp
 use Rattle.wire_spec.proofs.TemplateLemmas.{size_least}
 use Rattle.wire_spec.proofs.DefinitionLemmas.{fields_count, shortest_of_fields}
 use Rattle.wire_spec.proofs.SpecifierLemmas.{sizes_least, one_count}
-use Rattle.wire_spec.proofs.WrittenLemmas.{written_shorter}
-use Rattle.template_def.specs.Kept.{IsKept}
+use Rattle.wire_spec.proofs.WrittenLemmas.{written_shorter, written_define, written_same}
+use Rattle.template_def.specs.Kept.{IsKept, IsReadBack}
 use Rattle.template_def.specs.Walk.{BeginsField}
 use Rattle.template_def.proofs.WalkLemmas.{first_left}
 
@@ -69,6 +69,13 @@ definition_kept kind scope count specs fields d short is each =
     let within = d.within in
     let least = d.shortest in
     record { some = omega arith; within = omega arith; shortest = omega arith; fields = each; short = omega arith }
+
+-- What is written of a definition reads back.
+pub read_back : (definition : Definition) → IsKept definition → IsReadBack definition
+read_back d k = record {
+  define = written_define d.scope d.fields k.fields k.some k.within k.shortest;
+  same = ap (λ (l : List FieldSpec). record d { fields = l }) (written_same d.fields k.fields);
+}
 
 -- a field has an octet where its length isn't 0
 least_some : (len : ℕ) → nat_eq len 0 ≡ false → 0 < least_of len

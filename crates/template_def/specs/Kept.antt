@@ -4,7 +4,7 @@ use Rattle.std.specs.List.{AllByRecursion}
 use Rattle.wire_spec.specs.Message.{front}
 use Rattle.wire_spec.specs.Record.{shortest}
 use Rattle.wire_spec.specs.Content.{Definition}
-use Rattle.wire_spec.specs.Specifiers.{IsField, specifiers}
+use Rattle.wire_spec.specs.Specifiers.{DefineRecords, defined_by, IsField, specifiers}
 
 -- a definition has a field, no more scope fields than fields, and records with an octet; its specifiers can be
 -- written, and a message of one template record has room for them
@@ -14,6 +14,11 @@ pub record IsKept (definition : Definition) : Type 0 where
   pub shortest : 0 < shortest definition.fields
   pub fields : AllByRecursion IsField definition.fields
   pub short : front definition.kind + length (specifiers definition.fields) ≤ 65515
+
+-- what is written of a definition defines records again, and is the same definition
+pub record IsReadBack (definition : Definition) : Type 0 where
+  pub define : DefineRecords definition.scope (length definition.fields) (specifiers definition.fields)
+  pub same : defined_by definition.kind definition.scope (length definition.fields) (specifiers definition.fields) ≡ definition
 
 -- behind the old octets stands a front of some others
 pub record AppendsFront (old new octets : List ℕ) : Type 0 where

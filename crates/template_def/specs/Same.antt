@@ -5,7 +5,7 @@ use Rattle.std.specs.Bool.{Decides}
 use Rattle.std.specs.Cmp.{IsEquivalence, IsPartialEquivalence, partial_equiv_from_equiv, unsigned_Decides, both_ways}
 use Rattle.std.specs.Cmp.Lexicographic.{pointwise}
 use Rattle.std.proofs.Common.{sym, ap, ◌∙◌}
-use Rattle.std.proofs.lemmas.Bool.{and_parts}
+use Rattle.std.proofs.lemmas.Bool.{and_parts, and_from}
 use Rattle.std.proofs.lemmas.Slice.Eq.{slice_eq-Decides}
 use Rattle.col_base.specs.declared.base.Kind.{Kind}
 use Rattle.col_base.specs.declared.base.Kind.TheVariants.{Template, Options}
@@ -24,9 +24,6 @@ same_field f g = f.pen == g.pen && (f.id == g.id && f.len == g.len)
 abbrev pub same_definition : Definition → Definition → Bool
 same_definition a b = same_kind a.kind b.kind && (a.scope == b.scope && pointwise same_field a.fields b.fields)
 
-both : (a b : Bool) → a ≡ true → b ≡ true → (a && b) ≡ true
-both a b p q = ap (λ c. c && b) p ∙ q
-
 kind_Decides : (a b : Kind) → Decides (same_kind a b) (a ≡ b)
 kind_Decides Template Template = (λ e. refl, λ e. refl)
 kind_Decides Template Options = (λ e. absurd cc, λ e. absurd cc)
@@ -36,8 +33,8 @@ kind_Decides Options Options = (λ e. refl, λ e. refl)
 field_Decides : (f g : FieldSpec) → Decides (same_field f g) (f ≡ g)
 field_Decides f g = (
   λ e. (let p = and_parts _ _ e in let q = and_parts _ _ p.1 in equal_fields f g ((unsigned_Decides f.pen g.pen).0 p.0) ((unsigned_Decides f.id g.id).0 q.0) ((unsigned_Decides f.len g.len).0 q.1)),
-  λ e. both _ _ ((unsigned_Decides f.pen g.pen).1 (ap (λ (h : FieldSpec). h.pen) e))
-      (both _ _ ((unsigned_Decides f.id g.id).1 (ap (λ (h : FieldSpec). h.id) e)) ((unsigned_Decides f.len g.len).1 (ap (λ (h : FieldSpec). h.len) e))),
+  λ e. and_from _ _ ((unsigned_Decides f.pen g.pen).1 (ap (λ (h : FieldSpec). h.pen) e))
+      (and_from _ _ ((unsigned_Decides f.id g.id).1 (ap (λ (h : FieldSpec). h.id) e)) ((unsigned_Decides f.len g.len).1 (ap (λ (h : FieldSpec). h.len) e))),
 )
 
 fields_Decides : (f g : List FieldSpec) → Decides (pointwise same_field f g) (f ≡ g)
@@ -54,8 +51,8 @@ equal_definitions a b k s f =
 pub definition_Decides : (a b : Definition) → Decides (same_definition a b) (a ≡ b)
 definition_Decides a b = (
   λ e. (let p = and_parts _ _ e in let q = and_parts _ _ p.1 in equal_definitions a b ((kind_Decides a.kind b.kind).0 p.0) ((unsigned_Decides a.scope b.scope).0 q.0) ((fields_Decides a.fields b.fields).0 q.1)),
-  λ e. both _ _ ((kind_Decides a.kind b.kind).1 (ap (λ (d : Definition). d.kind) e))
-      (both _ _ ((unsigned_Decides a.scope b.scope).1 (ap (λ (d : Definition). d.scope) e)) ((fields_Decides a.fields b.fields).1 (ap (λ (d : Definition). d.fields) e))),
+  λ e. and_from _ _ ((kind_Decides a.kind b.kind).1 (ap (λ (d : Definition). d.kind) e))
+      (and_from _ _ ((unsigned_Decides a.scope b.scope).1 (ap (λ (d : Definition). d.scope) e)) ((fields_Decides a.fields b.fields).1 (ap (λ (d : Definition). d.fields) e))),
 )
 
 pub equivalence : IsEquivalence same_definition

@@ -3,8 +3,9 @@ ghost use Rattle.std.specs.Prelude.{◌≡◌, ◌≤◌, ◌<◌, ◌+◌, ◌+
 ghost use Rattle.wire_spec.specs.Message.{front, specifiers_size};
 ghost use Rattle.wire_spec.specs.Record.{shortest};
 ghost use Rattle.wire_spec.specs.Size.{are_fixed};
+ghost use Rattle.wire_spec.specs.WellFormed.{HasScope, IsWellFormed};
 ghost use Rattle.wire_spec.specs.Specifiers.{AreWellFormed, defined_by, specifiers};
-ghost use Rattle.template_def.specs.Kept.{IsKept, AppendsFront};
+ghost use Rattle.template_def.specs.Kept.{IsKept, IsReadBack, AppendsFront};
 
 use crate::fields::{are_fixed, put_fields, read_fields, shortest, written_len};
 use col_base::{Kind, Octets, WantOfMemory};
@@ -82,6 +83,7 @@ impl Definition {
     pub fn fields(&self) -> &[FieldSpec]
         ensures are { result.now ≡ self.now.fields }
         ensures kept { IsKept self.now }
+        ensures well_formed { HasScope self.now.kind self.now.scope → IsWellFormed self.now }
     {
         &self.fields
     }
@@ -109,10 +111,12 @@ impl Definition {
         self.specs_len
     }
 
-    /// Appends the specifier of each field. Where memory is wanted a front of them stands there.
+    /// Appends the specifier of each field, with the enterprise bit and number where that number isn't 0. Where memory
+    /// is wanted a front of them is appended. What is appended reads back as the same definition.
     pub fn put_specs(&self, out: &mut Octets) -> Result<(), WantOfMemory>
         ensures ok { OnOk result (out.new ≡ out.old ++ specifiers self.now.fields) }
         ensures err { OnErr result (AppendsFront out.old out.new (specifiers self.now.fields)) }
+        ensures back { IsReadBack self.now }
     {
         put_fields(&self.fields, out)?;
         Ok(())
