@@ -1,5 +1,5 @@
 -- The fields that are read from specifiers, and what their definition keeps.
-use Rattle.std.proofs.Common.{◌≡◌, ℕ, zero, suc, ◌+◌, ◌*◌, ◌<◌, ◌≤◌, ◌^◌, inl, inr, Bool, true, false, not, List, [], ◌∷◌, ◌++◌, length, drop, refl, ap, sym, subst, ◌∙◌, arith, append_assoc}
+use Rattle.std.proofs.Common.{◌≡◌, ℕ, zero, suc, ◌+◌, ◌<◌, ◌≤◌, ◌^◌, inl, inr, Bool, true, false, not, List, [], ◌∷◌, ◌++◌, length, drop, refl, ap, sym, subst, ◌∙◌, arith, append_assoc}
 use Rattle.std.specs.Prelude.{nat_eq, nat_le, IsTrue, ◌↔◌}
 use Rattle.std.specs.List.{AllByRecursion}
 use Rattle.std.proofs.lemmas.Bool.{cases_Bool, both_ways, eqb-true, eqb-false, cond_both, leb-true, le-leb}
@@ -8,9 +8,8 @@ use Rattle.col_base.specs.declared.base.Kind.{Kind}
 use Rattle.wire_spec.specs.declared.field.FieldSpec.{FieldSpec}
 use Rattle.wire_spec.specs.Message.{front, specifier_size, specifiers_size, shortest_of_specifiers, least_of}
 use Rattle.wire_spec.specs.Record.{shortest}
-use Rattle.wire_spec.specs.Content.{Definition, field_of, fields_of}
+use Rattle.wire_spec.specs.Content.{Definition, fields_of}
 use Rattle.wire_spec.specs.Specifiers.{DefineRecords, AreWellFormed, IsField, specifiers}
-use Rattle.wire_spec.proofs.TemplateLemmas.{size_least}
 use Rattle.wire_spec.proofs.DefinitionLemmas.{fields_count, shortest_of_fields}
 use Rattle.wire_spec.proofs.SpecifierLemmas.{sizes_least, one_count}
 use Rattle.wire_spec.proofs.WrittenLemmas.{written_shorter, written_define, written_same}

@@ -1,5 +1,5 @@
 -- A walk over field specifiers, one further and whole.
-use Rattle.std.proofs.Common.{◌≡◌, ℕ, zero, suc, ◌+◌, ◌-◌, ◌*◌, ◌<◌, ◌≤◌, List, [], ◌++◌, length, drop, refl, ap, sym, ◌∙◌, arith, length-drop}
+use Rattle.std.proofs.Common.{◌≡◌, ℕ, zero, suc, ◌+◌, ◌-◌, ◌*◌, ◌<◌, ◌≤◌, List, length, drop, refl, ap, sym, ◌∙◌, arith, length-drop}
 use Rattle.wire_spec.specs.declared.field.FieldSpec.{FieldSpec}
 use Rattle.wire_spec.specs.Message.{specifier_size, specifiers_size, shortest_of_specifiers, least_of}
 use Rattle.wire_spec.proofs.TemplateLemmas.{size_least}

@@ -1,5 +1,5 @@
 -- What a step over field specifiers gives (RFC 7011, section 3.2).
-use Rattle.std.specs.Prelude.{ℕ, ◌≡◌, ◌<◌, ◌≤◌, List, length, drop}
+use Rattle.std.specs.Prelude.{ℕ, ◌≡◌, ◌≤◌, List, length, drop}
 use Rattle.wire_spec.specs.declared.field.FieldSpec.{FieldSpec}
 use Rattle.wire_spec.specs.Message.{specifier_size}
 use Rattle.wire_spec.specs.Content.{field_of}

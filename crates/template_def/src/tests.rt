@@ -4,6 +4,7 @@ ghost use Rattle.std.specs.Prelude.{◌≡◌, IfOk};
 use super::*;
 use col_base::{Kind, Octets, WantOfMemory};
 use std::alloc::Global;
+use std::test::Fail;
 
 /// The definition that is read from what is written of one.
 fn read_again(alloc: Global, definition: &Definition) -> Result<Definition, WantOfMemory>
@@ -15,17 +16,12 @@ fn read_again(alloc: Global, definition: &Definition) -> Result<Definition, Want
     Definition::read(alloc, definition.kind(), definition.scope(), out.as_slice())
 }
 
-/// The definition of specifiers, if they are well formed and fit into a message.
-fn definition_of(
-    alloc: Global,
-    kind: Kind,
-    scope: u16,
-    specs: &[u8],
-) -> Result<Option<Definition>, WantOfMemory> {
+/// The definition of specifiers, if they are well formed.
+fn definition_of(alloc: Global, kind: Kind, scope: u16, specs: &[u8]) -> Option<Definition> {
     if specs.len() > 65509 || !well_formed(scope, specs) {
-        return Ok(None);
+        return None;
     }
-    Ok(Some(Definition::read(alloc, kind, scope, specs)?))
+    Definition::read(alloc, kind, scope, specs).ok()
 }
 
 /// Three fields of IANA: two addresses and a count.
@@ -44,105 +40,92 @@ const UNMARKED: [u8; 4] = [0, 7, 0, 2];
 
 #[test]
 fn specifiers_are_judged(rt: HostRuntime) {
-    let nothing: [u8; 0] = [];
-    assert!(rt; !well_formed(0, &nothing));
-    assert!(rt; well_formed(0, &FLOW));
-    assert!(rt; well_formed(3, &FLOW));
-    assert!(rt; !well_formed(4, &FLOW));
-    assert!(rt; !well_formed(0, &FLOW[..11]));
-    assert!(rt; !well_formed(0, &FLOW[..3]));
-    assert!(rt; well_formed(0, &AROUND));
-    assert!(rt; !well_formed(4, &AROUND));
-    assert!(rt; !well_formed(0, &AROUND[..8]));
-    assert!(rt; well_formed(1, &NAME));
-    assert!(rt; !well_formed(0, &[0, 1, 0, 0]));
-    assert!(rt; !well_formed(0, &[0, 1, 0, 0, 0, 2, 0, 0]));
-    assert!(rt; well_formed(0, &[0, 1, 0, 0, 0, 2, 0, 1]));
+    let table: [(u16, &[u8], bool); 13] = [
+        (0, &[], false),
+        (0, &FLOW, true),
+        (3, &FLOW, true),
+        (4, &FLOW, false),
+        (0, &FLOW[..11], false),
+        (0, &FLOW[..3], false),
+        (0, &AROUND, true),
+        (4, &AROUND, false),
+        (0, &AROUND[..8], false),
+        (1, &NAME, true),
+        (0, &[0, 1, 0, 0], false),
+        (0, &[0, 1, 0, 0, 0, 2, 0, 0], false),
+        (0, &[0, 1, 0, 0, 0, 2, 0, 1], true),
+    ];
+    for (scope, specs, want) in table {
+        assert_eq!(rt; well_formed(scope, specs), want);
+    }
+}
+
+/// What the calls answer on a definition.
+fn answers(definition: &Definition) -> (Kind, u16, u32, u32, bool) {
+    (
+        definition.kind(),
+        definition.scope(),
+        definition.min_len(),
+        definition.specs_len(),
+        definition.is_fixed(),
+    )
 }
 
 #[test]
-fn definitions_are_read(rt: HostRuntime) -> Result<(), WantOfMemory> {
-    let Some(around) = definition_of(rt.alloc(), Kind::Template, 0, &AROUND)? else {
-        panic!(rt; "not well formed");
+fn definitions_are_read(rt: HostRuntime) -> Result<(), Fail> {
+    let around = definition_of(rt.alloc(), Kind::Template, 0, &AROUND).ok_or("no definition")?;
+    assert_eq!(rt; answers(&around), (Kind::Template, 0, 10, 16, true));
+    let count = FieldSpec {
+        pen: 0,
+        id: 1,
+        len: 4,
     };
-    assert_eq!(rt; around.kind(), Kind::Template);
-    assert_eq!(rt; around.scope(), 0);
-    assert_eq!(rt;
-        around.fields(),
-        [
-            FieldSpec {
-                pen: 0,
-                id: 1,
-                len: 4
-            },
-            FieldSpec {
-                pen: 9,
-                id: 7,
-                len: 2
-            },
-            FieldSpec {
-                pen: 0,
-                id: 1,
-                len: 4
-            },
-        ]
-        .as_slice()
-    );
-    assert_eq!(rt; (around.min_len(), around.specs_len()), (10, 16));
-    assert!(rt; around.is_fixed());
+    let other = FieldSpec {
+        pen: 9,
+        id: 7,
+        len: 2,
+    };
+    assert_eq!(rt; around.fields(), [count, other, count].as_slice());
 
-    let Some(name) = definition_of(rt.alloc(), Kind::Options, 1, &NAME)? else {
-        panic!(rt; "not well formed");
-    };
-    assert_eq!(rt; (name.kind(), name.scope()), (Kind::Options, 1));
-    assert_eq!(rt; (name.min_len(), name.specs_len()), (1, 4));
-    assert!(rt; !name.is_fixed());
+    let name = definition_of(rt.alloc(), Kind::Options, 1, &NAME).ok_or("no definition")?;
+    assert_eq!(rt; answers(&name), (Kind::Options, 1, 1, 4, false));
     Ok(())
 }
 
 #[test]
-fn definitions_are_written_and_read_again(rt: HostRuntime) -> Result<(), WantOfMemory> {
-    let alloc = rt.alloc();
-    let Some(around) = definition_of(alloc, Kind::Template, 0, &AROUND)? else {
-        panic!(rt; "not well formed");
-    };
-    let mut out = Octets::from_slice(alloc, &FLOW)?;
-    around.put_specs(&mut out)?;
-    assert_eq!(rt; &out.as_slice()[..12], FLOW.as_slice());
-    assert_eq!(rt; &out.as_slice()[12..], AROUND.as_slice());
-    assert!(rt; read_again(alloc, &around)? == around);
+fn definitions_are_written_and_read_again(rt: HostRuntime) -> Result<(), Fail> {
+    let around = definition_of(rt.alloc(), Kind::Template, 0, &AROUND).ok_or("no definition")?;
+    let mut out = Octets::new(rt.alloc());
+    assert!(rt; out.push(77).is_ok() && around.put_specs(&mut out).is_ok());
+    assert_eq!(rt; out.as_slice().first(), Some(&77));
+    assert_eq!(rt; &out.as_slice()[1..], AROUND.as_slice());
+    assert!(rt; read_again(rt.alloc(), &around).ok() == Some(around));
+    Ok(())
+}
 
-    let Some(marked) = definition_of(alloc, Kind::Template, 0, &MARKED_ZERO)? else {
-        panic!(rt; "not well formed");
-    };
-    let Some(unmarked) = definition_of(alloc, Kind::Template, 0, &UNMARKED)? else {
-        panic!(rt; "not well formed");
-    };
-    assert_eq!(rt;
-        marked.fields(),
-        [FieldSpec {
-            pen: 0,
-            id: 7,
-            len: 2
-        }]
-        .as_slice()
-    );
-    assert_eq!(rt; marked.specs_len(), 4);
-    assert!(rt; marked == unmarked);
-    let mut out = Octets::new(alloc);
-    marked.put_specs(&mut out)?;
+#[test]
+fn an_enterprise_number_of_zero_is_none(rt: HostRuntime) -> Result<(), Fail> {
+    let marked = definition_of(rt.alloc(), Kind::Template, 0, &MARKED_ZERO).ok_or("no definition")?;
+    assert_eq!(rt; answers(&marked), (Kind::Template, 0, 2, 4, true));
+    let mut out = Octets::new(rt.alloc());
+    assert!(rt; marked.put_specs(&mut out).is_ok());
     assert_eq!(rt; out.as_slice(), UNMARKED.as_slice());
+    assert!(rt; Some(marked) == definition_of(rt.alloc(), Kind::Template, 0, &UNMARKED));
     Ok(())
 }
 
 #[test]
-fn definitions_differ_by_kind_scope_and_fields(rt: HostRuntime) -> Result<(), WantOfMemory> {
-    let alloc = rt.alloc();
-    let flow = definition_of(alloc, Kind::Options, 1, &FLOW)?;
-    assert!(rt; flow == definition_of(alloc, Kind::Options, 1, &FLOW)?);
-    assert!(rt; flow != definition_of(alloc, Kind::Template, 1, &FLOW)?);
-    assert!(rt; flow != definition_of(alloc, Kind::Options, 2, &FLOW)?);
-    assert!(rt; flow != definition_of(alloc, Kind::Options, 1, &AROUND)?);
-    assert!(rt; flow != definition_of(alloc, Kind::Options, 1, &FLOW[..8])?);
-    Ok(())
+fn definitions_differ_by_kind_scope_and_fields(rt: HostRuntime) {
+    let flow = definition_of(rt.alloc(), Kind::Options, 1, &FLOW);
+    let table: [(Kind, u16, &[u8], bool); 5] = [
+        (Kind::Options, 1, &FLOW, true),
+        (Kind::Template, 1, &FLOW, false),
+        (Kind::Options, 2, &FLOW, false),
+        (Kind::Options, 1, &AROUND, false),
+        (Kind::Options, 1, &FLOW[..8], false),
+    ];
+    for (kind, scope, specs, same) in table {
+        assert_eq!(rt; flow == definition_of(rt.alloc(), kind, scope, specs), same);
+    }
+    assert!(rt; flow.is_some());
 }

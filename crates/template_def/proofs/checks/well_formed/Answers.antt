@@ -1,4 +1,3 @@
-use Rattle.std.proofs.Common.{sym, ◌∙◌}
 use Rattle.std.proofs.lemmas.Bool.{both_ways}
 use Rattle.template_def.proofs.ReadLemmas.{formed, not_formed}
 use Rattle.template_def.proofs.checks.well_formed.Goals as goal

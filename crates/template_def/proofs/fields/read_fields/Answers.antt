@@ -1,4 +1,3 @@
-use Rattle.std.proofs.Common.{sym, ◌∙◌}
 use Rattle.template_def.proofs.ReadLemmas.{each_more, left_more, left_none}
 use Rattle.wire_spec.specs.Content.{fields_of}
 use Rattle.wire_spec.specs.Specifiers.{IsField}
