@@ -1,0 +1,131 @@
+// Tests, and a caller that writes a definition and reads it again.
+ghost use Rattle.std.specs.Prelude.{◌≡◌, IfOk};
+
+use super::*;
+use col_base::{Kind, Octets, WantOfMemory};
+use std::alloc::Global;
+use std::test::Fail;
+
+/// The definition that is read from what is written of one.
+fn read_again(alloc: Global, definition: &Definition) -> Result<Definition, WantOfMemory>
+    ensures { IfOk result (λ again. again ≡ definition.now) }
+{
+    let mut out = Octets::new(alloc);
+    definition.put_specs(&mut out)?;
+    let _ = definition.fields();
+    Definition::read(alloc, definition.kind(), definition.scope(), out.as_slice())
+}
+
+/// The definition of specifiers, if they are well formed.
+fn definition_of(alloc: Global, kind: Kind, scope: u16, specs: &[u8]) -> Option<Definition> {
+    if specs.len() > 65509 || !well_formed(scope, specs) {
+        return None;
+    }
+    Definition::read(alloc, kind, scope, specs).ok()
+}
+
+/// Three fields of IANA: two addresses and a count.
+const FLOW: [u8; 12] = [0, 8, 0, 4, 0, 12, 0, 4, 0, 1, 0, 4];
+
+/// A field of another enterprise between two of one element.
+const AROUND: [u8; 16] = [0, 1, 0, 4, 0x80, 7, 0, 2, 0, 0, 0, 9, 0, 1, 0, 4];
+
+/// One field that varies.
+const NAME: [u8; 4] = [0, 82, 255, 255];
+
+/// A field whose specifier has the enterprise bit and the number 0, and the same field without both.
+const MARKED_ZERO: [u8; 8] = [0x80, 7, 0, 2, 0, 0, 0, 0];
+
+const UNMARKED: [u8; 4] = [0, 7, 0, 2];
+
+#[test]
+fn specifiers_are_judged(rt: HostRuntime) {
+    let table: [(u16, &[u8], bool); 13] = [
+        (0, &[], false),
+        (0, &FLOW, true),
+        (3, &FLOW, true),
+        (4, &FLOW, false),
+        (0, &FLOW[..11], false),
+        (0, &FLOW[..3], false),
+        (0, &AROUND, true),
+        (4, &AROUND, false),
+        (0, &AROUND[..8], false),
+        (1, &NAME, true),
+        (0, &[0, 1, 0, 0], false),
+        (0, &[0, 1, 0, 0, 0, 2, 0, 0], false),
+        (0, &[0, 1, 0, 0, 0, 2, 0, 1], true),
+    ];
+    for (scope, specs, want) in table {
+        assert_eq!(rt; well_formed(scope, specs), want);
+    }
+}
+
+/// What the calls answer on a definition.
+fn answers(definition: &Definition) -> (Kind, u16, u32, u32, bool) {
+    (
+        definition.kind(),
+        definition.scope(),
+        definition.min_len(),
+        definition.specs_len(),
+        definition.is_fixed(),
+    )
+}
+
+#[test]
+fn definitions_are_read(rt: HostRuntime) -> Result<(), Fail> {
+    let around = definition_of(rt.alloc(), Kind::Template, 0, &AROUND).ok_or("no definition")?;
+    assert_eq!(rt; answers(&around), (Kind::Template, 0, 10, 16, true));
+    let count = FieldSpec {
+        pen: 0,
+        id: 1,
+        len: 4,
+    };
+    let other = FieldSpec {
+        pen: 9,
+        id: 7,
+        len: 2,
+    };
+    assert_eq!(rt; around.fields(), [count, other, count].as_slice());
+
+    let name = definition_of(rt.alloc(), Kind::Options, 1, &NAME).ok_or("no definition")?;
+    assert_eq!(rt; answers(&name), (Kind::Options, 1, 1, 4, false));
+    Ok(())
+}
+
+#[test]
+fn definitions_are_written_and_read_again(rt: HostRuntime) -> Result<(), Fail> {
+    let around = definition_of(rt.alloc(), Kind::Template, 0, &AROUND).ok_or("no definition")?;
+    let mut out = Octets::new(rt.alloc());
+    assert!(rt; out.push(77).is_ok() && around.put_specs(&mut out).is_ok());
+    assert_eq!(rt; out.as_slice().first(), Some(&77));
+    assert_eq!(rt; &out.as_slice()[1..], AROUND.as_slice());
+    assert!(rt; read_again(rt.alloc(), &around).ok() == Some(around));
+    Ok(())
+}
+
+#[test]
+fn an_enterprise_number_of_zero_is_none(rt: HostRuntime) -> Result<(), Fail> {
+    let marked = definition_of(rt.alloc(), Kind::Template, 0, &MARKED_ZERO).ok_or("no definition")?;
+    assert_eq!(rt; answers(&marked), (Kind::Template, 0, 2, 4, true));
+    let mut out = Octets::new(rt.alloc());
+    assert!(rt; marked.put_specs(&mut out).is_ok());
+    assert_eq!(rt; out.as_slice(), UNMARKED.as_slice());
+    assert!(rt; Some(marked) == definition_of(rt.alloc(), Kind::Template, 0, &UNMARKED));
+    Ok(())
+}
+
+#[test]
+fn definitions_differ_by_kind_scope_and_fields(rt: HostRuntime) {
+    let flow = definition_of(rt.alloc(), Kind::Options, 1, &FLOW);
+    let table: [(Kind, u16, &[u8], bool); 5] = [
+        (Kind::Options, 1, &FLOW, true),
+        (Kind::Template, 1, &FLOW, false),
+        (Kind::Options, 2, &FLOW, false),
+        (Kind::Options, 1, &AROUND, false),
+        (Kind::Options, 1, &FLOW[..8], false),
+    ];
+    for (kind, scope, specs, same) in table {
+        assert_eq!(rt; flow == definition_of(rt.alloc(), kind, scope, specs), same);
+    }
+    assert!(rt; flow.is_some());
+}
