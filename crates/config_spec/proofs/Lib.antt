@@ -1,0 +1,3 @@
+pub mod KnownConfs
+pub mod KnownTexts
+pub mod KnownFaults

@@ -1,0 +1,11 @@
+pub mod First
+pub mod Texts
+pub mod Domains
+pub mod Keys
+pub mod Fits
+pub mod Faults
+pub mod Values
+pub mod Repeats
+pub mod Description
+pub mod Examples
+pub mod Faulty

@@ -1,0 +1,9 @@
+pub mod TreeLemmas
+pub mod DottedLemmas
+pub mod HexLemmas
+pub mod NumberLemmas
+pub mod CutLemmas
+pub mod UnknownLemmas
+pub mod TextLemmas
+pub mod MaskLemmas
+pub mod RepeatLemmas
