@@ -39,4 +39,5 @@ specifiers_kept kind o specs scope count r le s c e ne =
     let l = length-drop (front kind) o in
     let within = w.within in
     let some = w.shortest in
-    rw (octets, c, k) (record { whole = omega arith; within = omega arith; shortest = omega arith; short = omega arith })
+    let fields = w.fields in
+    rw (octets, c, k) (record { define = record { whole = omega arith; some = omega arith; within = omega arith; shortest = omega arith }; short = omega arith })

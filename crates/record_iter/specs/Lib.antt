@@ -1,3 +1,3 @@
 pub mod Walk
 pub mod Left
-pub mod Lengths
+pub mod Shown

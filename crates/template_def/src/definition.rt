@@ -25,19 +25,14 @@ pub struct Definition {
 }
 
 impl Model for Definition {
-    ghost use Rattle.std.specs.Prelude.{◌≡◌, length};
     ghost use Rattle.wire_spec.specs.Content as content;
-    ghost use Rattle.wire_spec.specs.Record.{shortest};
-    ghost use Rattle.wire_spec.specs.Size.{are_fixed};
-    ghost use Rattle.wire_spec.specs.Specifiers.{specifiers};
-    ghost use Rattle.template_def.specs.Kept.{IsKept};
+    ghost use Rattle.template_def.specs.Kept.{IsStored};
 
     ghost Value = { content.Definition };
 
     ghost view = { λ d. record { kind = d.kind; scope = d.scope; fields = d.fields.items } };
 
-    ghost invariant = { λ d. IsKept (record { kind = d.kind; scope = d.scope; fields = d.fields.items })
-        × (d.min_len ≡ shortest d.fields.items) × (d.specs_len ≡ length (specifiers d.fields.items)) × (d.is_fixed ≡ are_fixed d.fields.items) };
+    ghost invariant = { λ d. IsStored (record { kind = d.kind; scope = d.scope; fields = d.fields.items }) d.min_len d.specs_len d.is_fixed };
 }
 
 impl Definition {

@@ -20,4 +20,9 @@ pub invariant_of-result : goal.invariant_of-result
 invariant_of-result c =
     let w = c.requires.well_formed in
     let k = definition_kept c.args.kind c.args.scope w.0 c.args.specs.now c.in_ok-fields.fields.items w.1 c.requires.short (c.in_ok-fields.ensures.are w.0 w.1.whole) c.in_ok-fields.ensures.kept in
-    (k, c.shortest-min_len.ensures ∙ ap shortest c.deref.ensures.value, c.written_len-specs_len.ensures ∙ ap (λ (l : List FieldSpec). length (specifiers l)) c.deref-2.ensures.value, c.are_fixed-is_fixed.ensures ∙ ap are_fixed c.deref-3.ensures.value)
+    record {
+      kept = k;
+      least = c.shortest-min_len.ensures ∙ ap shortest c.deref.ensures.value;
+      written = c.written_len-specs_len.ensures ∙ ap (λ (l : List FieldSpec). length (specifiers l)) c.deref-2.ensures.value;
+      fixed = c.are_fixed-is_fixed.ensures ∙ ap are_fixed c.deref-3.ensures.value;
+    }
