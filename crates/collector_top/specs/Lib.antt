@@ -1,5 +1,6 @@
 pub mod Reading
 pub mod Plain
+pub mod Printed
 pub mod Specifiers
 pub mod Templates
 pub mod Plan
