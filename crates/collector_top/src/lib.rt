@@ -5,17 +5,18 @@
 #![tactic(auto)]
 
 mod address;
-mod body;
 mod call;
+mod data;
 mod direct;
-mod line;
-mod plan;
+mod domains;
+mod planned;
+mod printed;
 mod put;
 mod reading;
+mod records;
 mod report;
-mod shape;
-mod stream;
-mod template;
+mod session;
+mod templates;
 mod words;
 
 pub use call::collect_main;
