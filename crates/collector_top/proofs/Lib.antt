@@ -17,3 +17,5 @@ pub mod DirectLemmas
 pub mod LeavesLemmas
 pub mod ReportLemmas
 pub mod DottedLemmas
+pub mod TemplateTableLemmas
+pub mod SessionTemplatesLemmas

@@ -11,3 +11,6 @@ pub mod Found
 pub mod Report
 pub mod Direct
 pub mod Words
+pub mod TemplateTable
+pub mod DomainTemplates
+pub mod SessionTemplates

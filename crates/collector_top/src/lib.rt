@@ -8,6 +8,7 @@ mod address;
 mod body;
 mod call;
 mod direct;
+mod domains;
 mod line;
 mod plan;
 mod put;
@@ -16,6 +17,7 @@ mod report;
 mod shape;
 mod stream;
 mod template;
+mod templates;
 mod words;
 
 pub use call::collect_main;
