@@ -13,7 +13,6 @@ mod planned;
 mod printed;
 mod put;
 mod reading;
-mod records;
 mod report;
 mod session;
 mod templates;
