@@ -17,3 +17,6 @@ pub mod DirectLemmas
 pub mod LeavesLemmas
 pub mod ReportLemmas
 pub mod DottedLemmas
+pub mod PieceLemmas
+pub mod PrintedLemmas
+pub mod RecordsLemmas

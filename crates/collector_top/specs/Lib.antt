@@ -11,3 +11,4 @@ pub mod Found
 pub mod Report
 pub mod Direct
 pub mod Words
+pub mod Pieces

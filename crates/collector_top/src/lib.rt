@@ -7,15 +7,23 @@
 mod address;
 mod body;
 mod call;
+mod decimal;
 mod direct;
+mod dotted;
 mod line;
+mod name;
+mod octet_text;
 mod plan;
 mod put;
 mod reading;
+mod record;
+mod records;
 mod report;
+mod room;
 mod shape;
 mod stream;
 mod template;
+mod value;
 mod words;
 
 pub use call::collect_main;

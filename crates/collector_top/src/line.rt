@@ -8,7 +8,8 @@ ghost use Rattle.text_spec.specs.Marks.{entry_start, line_end};
 ghost use Rattle.text_spec.specs.Builtin.{builtin_rows};
 ghost use Rattle.text_spec.specs.Fields.{pair_of, are_single};
 ghost use Rattle.text_spec.specs.Json.{member_name, text_at, single_text, json_line};
-ghost use Rattle.collector_top.specs.Plain.{is_plain, fixed_size, fixed_values, count_name, source_name, destination_name};
+ghost use Rattle.collector_top.specs.Plain.{is_plain, fixed_size, fixed_values};
+ghost use Rattle.collector_top.specs.Pieces.{count_name, source_name, destination_name};
 
 use crate::address::put_address;
 use col_base::Octets;
@@ -50,21 +51,21 @@ fn put_end(out: &mut Octets) -> Result<(), AllocError>
     out.extend(b"}\n")
 }
 
-#[tactic(auto, unfolding(crate::specs::Plain::count_name))]
+#[tactic(auto, unfolding(crate::specs::Pieces::count_name))]
 fn put_count_name(out: &mut Octets) -> Result<(), AllocError>
     ensures { OnOk result (out.new ≡ out.old ++ count_name) }
 {
     out.extend(b",\"iana:octetDeltaCount\":")
 }
 
-#[tactic(auto, unfolding(crate::specs::Plain::source_name))]
+#[tactic(auto, unfolding(crate::specs::Pieces::source_name))]
 fn put_source_name(out: &mut Octets) -> Result<(), AllocError>
     ensures { OnOk result (out.new ≡ out.old ++ source_name) }
 {
     out.extend(b",\"iana:sourceIPv4Address\":")
 }
 
-#[tactic(auto, unfolding(crate::specs::Plain::destination_name))]
+#[tactic(auto, unfolding(crate::specs::Pieces::destination_name))]
 fn put_destination_name(out: &mut Octets) -> Result<(), AllocError>
     ensures { OnOk result (out.new ≡ out.old ++ destination_name) }
 {
