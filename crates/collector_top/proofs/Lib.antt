@@ -10,3 +10,6 @@ pub mod DottedLemmas
 pub mod TemplateTableLemmas
 pub mod SessionTemplatesLemmas
 pub mod PlanLemmas
+pub mod PieceLemmas
+pub mod PrintedLemmas
+pub mod RecordsLemmas

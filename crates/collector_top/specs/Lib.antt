@@ -10,3 +10,4 @@ pub mod Put
 pub mod Report
 pub mod Direct
 pub mod Words
+pub mod Pieces

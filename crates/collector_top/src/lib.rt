@@ -7,15 +7,23 @@
 mod address;
 mod call;
 mod data;
+mod decimal;
 mod direct;
 mod domains;
+mod dotted;
+mod name;
+mod octet_text;
 mod planned;
 mod printed;
 mod put;
 mod reading;
+mod record;
+mod records;
 mod report;
+mod room;
 mod session;
 mod templates;
+mod value;
 mod words;
 
 pub use call::collect_main;
