@@ -1,5 +1,5 @@
 -- What came of a run.
-use Rattle.std.proofs.Common.{◌≡◌, ◌≢◌, ℕ, true, false, inl, inr, List, [], map, Option, refl, sym, ◌∙◌}
+use Rattle.std.proofs.Common.{◌≢◌, ℕ, inl, inr, List, [], map, Option, refl, sym, ◌∙◌}
 use Rattle.std.specs.Prelude.{Result, Ok, Err}
 use Rattle.arrival_spec.specs.declared.event.Scripted.{Scripted}
 use Rattle.run_spec.specs.Decode.{DecodedSet}

@@ -5,7 +5,6 @@ use Rattle.std.specs.List.{concat}
 use Rattle.arrival_spec.specs.declared.event.Scripted.{Scripted}
 use Rattle.arrival_spec.specs.declared.event.Scripted.TheVariants as event
 use Rattle.arrival_spec.specs.Events.{events_of}
-use Rattle.collector_top.specs.declared.reading.Phase.{Phase}
 use Rattle.collector_top.specs.declared.reading.Phase.TheVariants as phase
 use Rattle.collector_top.specs.Reading.{Stream, before_all, after_event, reading_of}
 use Rattle.collector_top.specs.Built.{AreOfOneStream, IsBuilt}

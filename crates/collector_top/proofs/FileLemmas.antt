@@ -10,7 +10,6 @@ use Rattle.wire_spec.specs.Content.{Message}
 use Rattle.arrival_spec.specs.declared.event.Scripted.{Scripted}
 use Rattle.arrival_spec.specs.declared.event.Scripted.TheVariants as event
 use Rattle.arrival_spec.specs.Events.{events_of}
-use Rattle.arrival_spec.specs.Sessions.{key_of}
 use Rattle.arrival_spec.specs.OneStream.{IsOneStream, one_session}
 use Rattle.arrival_spec.specs.Arrival.{Arrival}
 use Rattle.arrival_spec.specs.Sessions.{AreArrivals, nothing_yet}

@@ -73,8 +73,7 @@ one_set p left old out next decoded [] are put e = absurd are
 one_set p left old out next decoded (d ∷ more) are put e =
     let same = are.0.definition in
     let lines : next ≡ out ++ flat_map (record_text builtin_rows d.definition) d.records =
-        subst (λ (def : Definition). next ≡ out ++ flat_map (record_text builtin_rows def) d.records) (sym same) (put d.records (subst (λ (def : Definition). AreRecordsOf def p.body.now d.records) same are.0.records)) in
-    (
+    subst (λ (def : Definition). next ≡ out ++ flat_map (record_text builtin_rows def) d.records) (sym same) (put d.records (subst (λ (def : Definition). AreRecordsOf def p.body.now d.records) same are.0.records)) in (
       more,
       are.1,
       e ∙ (sym (append_assoc out (set_text true builtin_rows d) (sets_text true builtin_rows more))

@@ -1,6 +1,6 @@
 -- Which records `direct` prints until every element is built: those of templates whose fields are octetDeltaCount and
 -- the two IPv4 addresses of a flow, each at most once, in any length.
-use Rattle.std.specs.Prelude.{ℕ, ◌≡◌, ◌==◌, ◌&&◌, ◌||◌, Bool, true, List}
+use Rattle.std.specs.Prelude.{◌≡◌, ◌==◌, ◌&&◌, ◌||◌, Bool, true, List}
 use Rattle.std.specs.List.{list_all}
 use Rattle.col_base.specs.declared.base.Kind.TheVariants.{Template}
 use Rattle.wire_spec.specs.declared.field.FieldSpec.{FieldSpec}

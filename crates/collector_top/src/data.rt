@@ -3,7 +3,7 @@ ghost use Rattle.std.specs.Prelude.{ℕ, OnOk, MatchBool};
 ghost use Rattle.collector_top.specs.Session.{HasRecords, HasNoRecords, PlansRecords, PlansData};
 
 use crate::domains::Domains;
-use crate::planned::{PlannedSet, PlannedSets};
+use crate::planned::{PlannedMessage, PlannedSet};
 use crate::printed::is_printed;
 use ipfix_reader::RawSet;
 use record_iter::records;
@@ -31,7 +31,7 @@ fn has_records(definition: &Definition, body: &[u8]) -> bool
 fn plan_records<'a>(
     definition: &Arc<Definition>,
     body: &'a [u8],
-    plan: &mut PlannedSets<'a>,
+    plan: &mut PlannedMessage<'a>,
 ) -> Result<(), AllocError>
     requires { HasRecords definition.now.value body.now }
     ensures { OnOk result ((id : ℕ) → PlansRecords definition.now.value id body.now plan.old plan.new) }
@@ -53,7 +53,7 @@ pub fn plan_data<'a>(
     set: RawSet<'a>,
     domain: u32,
     domains: &Domains,
-    plan: &mut PlannedSets<'a>,
+    plan: &mut PlannedMessage<'a>,
 ) -> Result<(), AllocError>
     ensures { OnOk result (PlansData domains.now domain set.entry.id set.entry.body.now plan.old plan.new) }
 {

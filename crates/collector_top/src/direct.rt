@@ -1,5 +1,6 @@
 // The command `direct`: one file to JSON lines, on the calling thread.
-ghost use Rattle.std.specs.Prelude.{◌≡◌, ◌≢◌, ◌≤◌, ◌<◌, ◌⊎◌, ◌^◌, ◌↔◌, ℕ, Err, IsTrue, List, IfOk, IfSome, MatchOption, None, map, string_bytes};
+ghost use Rattle.std.specs.Prelude.{◌≡◌, ◌≢◌, ◌≤◌, ◌<◌, ◌⊎◌, ◌^◌, ◌↔◌, ℕ, Err, IsTrue, List, IfOk, IfSome, MatchBool, MatchOption, None, map, string_bytes};
+ghost use Rattle.std.specs.List.{list_all};
 ghost use Rattle.arrival_spec.specs.declared.event.Scripted.{Scripted};
 ghost use Rattle.collector_top.specs.Reading.{TakenFrom};
 ghost use Rattle.collector_top.specs.Session.{IsNotPlanned, IsAllPlanned};
@@ -30,15 +31,35 @@ pub enum Outcome {
     SinkFailed(ReadEnd),
 }
 
+/// Whether all data sets of all messages are printed.
+fn are_built(planned: &[PlannedMessage<'_>]) -> bool
+    ensures { result ≡ list_all (λ m. m.is_built) planned.now }
+{
+    planned.iter().all(|message| message.is_built)
+}
+
+/// Whether events came that are not those of one stream.
+fn is_strange(phase: Phase) -> bool
+    ensures { MatchBool result (phase ≡ Phase.Strange) (phase ≢ Phase.Strange) }
+{
+    match phase {
+        Phase::Strange => true,
+        Phase::Before | Phase::Open | Phase::Closed => false,
+    }
+}
+
 /// What is to be printed of what was read. None where it isn't built.
 fn plan(alloc: Global, reading: &Reading) -> Result<Option<Vec<PlannedMessage<'_>>>, WantOfMemory>
     ensures { IfOk result (λ found. MatchOption found (IsNotPlanned reading.now) (λ planned. IsAllPlanned reading.now planned.items)) }
 {
-    if reading.phase == Phase::Strange {
+    if is_strange(reading.phase) {
         return Ok(None);
     }
-    let plan = plan_session(alloc, &reading.messages)?;
-    Ok(if plan.is_built { Some(plan.messages) } else { None })
+    let planned = plan_session(alloc, &reading.messages)?;
+    if !are_built(&planned) {
+        return Ok(None);
+    }
+    Ok(Some(planned))
 }
 
 /// Whether the reading ended for want of memory.

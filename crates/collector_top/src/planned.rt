@@ -12,22 +12,9 @@ pub struct PlannedSet<'a> {
     pub ghost printed: { IsPrinted definition.value },
 }
 
-/// The data sets of a message so far, in order, and whether all of them are printed.
-#[derive(Drop)]
-pub struct PlannedSets<'a> {
-    pub sets: Vec<PlannedSet<'a>>,
-    pub is_built: bool,
-}
-
-/// The data sets of a message, in order.
+/// The data sets of a message, in order, and whether they are all: false where one of them isn't printed.
 #[derive(Drop)]
 pub struct PlannedMessage<'a> {
     pub sets: Vec<PlannedSet<'a>>,
-}
-
-/// What is to be printed of the messages so far, and whether that is all.
-#[derive(Drop)]
-pub struct Plan<'a> {
-    pub messages: Vec<PlannedMessage<'a>>,
     pub is_built: bool,
 }

@@ -8,8 +8,8 @@ ghost use Rattle.collector_top.specs.Reading.{before_all, stream_in, after_answe
 
 use col_base::{Octets, WantOfMemory};
 use site_io::{OutsideFault, Source, SourceEvent};
-use stream_cut::{CutFault, Cutter};
 use std::alloc::{AllocError, Global};
+use stream_cut::{CutFault, Cutter};
 
 /// The most answers that are taken of a source, NotYet among them.
 const ANSWERS: u64 = 1 << 48;
@@ -114,11 +114,7 @@ fn phase_after(answer: SourceEvent, phase: Phase, room: &[u8]) -> Phase
 }
 
 /// Takes an answer in.
-fn take_answer(
-    reading: &mut Reading,
-    answer: SourceEvent,
-    room: &[u8],
-) -> Result<(), WantOfMemory>
+fn take_answer(reading: &mut Reading, answer: SourceEvent, room: &[u8]) -> Result<(), WantOfMemory>
     requires room { 65535 ≤ length room.now }
     requires length { HasLength answer }
     ensures { OnOk result (Follows reading.old reading.new (event_in room.now answer)) }
@@ -157,7 +153,13 @@ fn read_one<S: Source>(source: &mut S, room: &mut [u8], reading: &mut Reading) -
 {
     match source.next(room) {
         Ok(answer) => match take_answer(reading, answer, room) {
-            Ok(()) => { if is_end(answer, room) { Some(ReadEnd::End) } else { None } }
+            Ok(()) => {
+                if is_end(answer, room) {
+                    Some(ReadEnd::End)
+                } else {
+                    None
+                }
+            }
             Err(_) => Some(ReadEnd::Memory),
         },
         Err(OutsideFault::Failed) => Some(ReadEnd::Fault),

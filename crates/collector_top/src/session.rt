@@ -1,15 +1,15 @@
 // What is to be printed of the messages of a file's session.
-ghost use Rattle.std.specs.Prelude.{◌≡◌, ◌&&◌, [], OnOk, IfOk, true};
+ghost use Rattle.std.specs.Prelude.{◌≡◌, [], OnOk, IfOk, true};
 ghost use Rattle.ipfix_reader.specs.Walk.{IsSomeMessage};
 ghost use Rattle.collector_top.specs.SessionTemplates.{is_kept};
-ghost use Rattle.collector_top.specs.Session.{AddsMessage, TakesSet, PlansMessage, PlansNext, PlansSession};
+ghost use Rattle.collector_top.specs.Session.{TakesSet, PlansMessage, PlansNext, PlansMessages};
 
 use crate::data::plan_data;
 use crate::domains::Domains;
-use crate::planned::{Plan, PlannedMessage, PlannedSets};
+use crate::planned::PlannedMessage;
 use col_base::{Octets, WantOfMemory};
 use ipfix_reader::{Message, RawSet, check};
-use std::alloc::{AllocError, Global};
+use std::alloc::Global;
 
 /// The ID of Template Sets (RFC 7011, section 3.3.2).
 const TEMPLATE_SET: u16 = 2;
@@ -23,7 +23,7 @@ fn take_set<'a>(
     set: RawSet<'a>,
     domain: u32,
     domains: &mut Domains,
-    plan: &mut PlannedSets<'a>,
+    plan: &mut PlannedMessage<'a>,
 ) -> Result<(), WantOfMemory>
     requires { is_kept domains.old domain ≡ true }
     ensures { OnOk result (TakesSet set.entry domain domains.old domains.new plan.old plan.new) }
@@ -42,7 +42,7 @@ fn take_sets<'a>(
     message: Message<'a>,
     domain: u32,
     domains: &mut Domains,
-) -> Result<PlannedSets<'a>, WantOfMemory>
+) -> Result<PlannedMessage<'a>, WantOfMemory>
     requires { is_kept domains.old domain ≡ true }
     ensures { IfOk result (λ plan. PlansMessage message.entry.octets.now domain domains.old domains.new plan) }
 {
@@ -54,11 +54,11 @@ fn take_sets<'a>(
 }
 
 /// No data sets.
-fn no_sets<'a>(alloc: Global) -> PlannedSets<'a>
+fn no_sets<'a>(alloc: Global) -> PlannedMessage<'a>
     ensures none { result.sets.items ≡ [] }
     ensures built { result.is_built ≡ true }
 {
-    PlannedSets {
+    PlannedMessage {
         sets: Vec::new(alloc),
         is_built: true,
     }
@@ -69,7 +69,7 @@ fn take_message<'a>(
     alloc: Global,
     message: Message<'a>,
     domains: &mut Domains,
-) -> Result<PlannedSets<'a>, WantOfMemory>
+) -> Result<PlannedMessage<'a>, WantOfMemory>
     requires { IsSomeMessage message.octets.now }
     ensures { IfOk result (λ plan. PlansNext message.entry.octets.now domains.old domains.new plan) }
 {
@@ -86,7 +86,7 @@ fn take_octets<'a>(
     alloc: Global,
     octets: &'a [u8],
     domains: &mut Domains,
-) -> Result<PlannedSets<'a>, WantOfMemory>
+) -> Result<PlannedMessage<'a>, WantOfMemory>
     ensures { IfOk result (λ plan. PlansNext octets.now domains.old domains.new plan) }
 {
     match check(octets) {
@@ -95,33 +95,18 @@ fn take_octets<'a>(
     }
 }
 
-fn both(one: bool, other: bool) -> bool
-    ensures { result ≡ (one && other) }
-{
-    one && other
-}
-
-/// Puts the data sets of a message behind those before it.
-fn add_message<'a>(plan: &mut Plan<'a>, next: PlannedSets<'a>) -> Result<(), AllocError>
-    ensures { OnOk result (AddsMessage plan.old plan.new next.entry) }
-{
-    plan.is_built = both(plan.is_built, next.is_built);
-    plan.messages.push(PlannedMessage { sets: next.sets })?;
-    Ok(())
-}
-
 /// Goes over the messages of a file's session, and plans what is to be printed.
-pub fn plan_session(alloc: Global, messages: &[Octets]) -> Result<Plan<'_>, WantOfMemory>
-    ensures { IfOk result (λ plan. PlansSession messages.now plan.messages.items plan.is_built) }
+pub fn plan_session(
+    alloc: Global,
+    messages: &[Octets],
+) -> Result<Vec<PlannedMessage<'_>>, WantOfMemory>
+    ensures { IfOk result (λ planned. PlansMessages messages.now planned.items) }
 {
     let mut domains = Domains::new(alloc);
-    let mut plan = Plan {
-        messages: Vec::new(alloc),
-        is_built: true,
-    };
+    let mut planned = Vec::new(alloc);
     for octets in messages {
         let next = take_octets(alloc, octets.as_slice(), &mut domains)?;
-        add_message(&mut plan, next)?;
+        planned.push(next)?;
     }
-    Ok(plan)
+    Ok(planned)
 }

@@ -1,4 +1,4 @@
-use Rattle.std.proofs.Common.{◌<◌, arith, subst}
+use Rattle.std.proofs.Common.{arith}
 use Rattle.collector_top.proofs.PlanLemmas.{has_records, has_none, has_padding}
 use Rattle.collector_top.proofs.data.has_records.Goals as goal
 

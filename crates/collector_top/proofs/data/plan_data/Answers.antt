@@ -1,4 +1,4 @@
-use Rattle.collector_top.proofs.PlanLemmas.{data_low, data_unknown, data_skipped, data_planned}
+use Rattle.collector_top.proofs.PlanLemmas.{data_unknown, data_skipped, data_planned}
 use Rattle.collector_top.proofs.data.plan_data.Goals as goal
 
 pub returns-in_default : goal.returns-in_default

@@ -1,5 +1,4 @@
-use Rattle.std.proofs.Common.{refl, sym, ap, subst, ◌∙◌}
-use Rattle.collector_top.specs.Printed.{IsPrinted}
+use Rattle.std.proofs.Common.{refl, sym}
 use Rattle.collector_top.proofs.PlanLemmas.{plans_unprinted, plans_printed}
 use Rattle.collector_top.proofs.data.plan_records.Goals as goal
 

@@ -1,4 +1,4 @@
-use Rattle.std.proofs.Common.{◌≡◌, ap}
+use Rattle.std.proofs.Common.{ap}
 use Rattle.site_io.specs.Events.{event_in}
 use Rattle.collector_top.proofs.ReadingLemmas.{octets_taken, phase_follows}
 use Rattle.collector_top.proofs.reading.take_answer.Goals as goal

@@ -3,4 +3,4 @@ use Rattle.collector_top.specs.Session.{PlansUpTo}
 use Rattle.collector_top.proofs.session.plan_session.Given as goal
 
 abbrev pub invariant-loop-octets : goal.invariant-loop-octets
-invariant-loop-octets l = PlansUpTo (take l.octets-index l.messages) l.domains l.plan.messages.items l.plan.is_built
+invariant-loop-octets l = PlansUpTo (take l.octets-index l.messages) l.domains l.planned.items

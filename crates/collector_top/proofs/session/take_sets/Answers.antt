@@ -1,4 +1,4 @@
-use Rattle.std.proofs.Common.{ap, ◌∙◌, drop}
+use Rattle.std.proofs.Common.{ap, ◌∙◌}
 use Rattle.ipfix_reader.specs.declared.set_walk.Sets.{Sets}
 use Rattle.collector_top.proofs.PlanLemmas.{planned_none, planned_more, planned_all}
 use Rattle.collector_top.proofs.session.take_sets.Goals as goal
