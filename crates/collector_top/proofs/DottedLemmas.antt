@@ -11,7 +11,7 @@ use Rattle.std.proofs.lemmas.Slice.Eq.{bytes_eq-Decides}
 use Rattle.std.proofs.lemmas.Bool.{and_parts, cases_Bool, both_ways, eq-eqb, eqb-true}
 use Rattle.text_spec.specs.Marks.{quote, dot}
 use Rattle.text_spec.specs.Value.{quoted}
-use Rattle.collector_top.specs.Plain.{octet_digits, dotted}
+use Rattle.collector_top.specs.Pieces.{octet_digits, dotted}
 
 -- so many numbers have their digits
 have_digits : ℕ → Bool
@@ -22,7 +22,7 @@ octets_have : have_digits 256 ≡ true
 unfolding have_digits digits
 octets_have = refl
 
-below_or_last : (n k : ℕ) → n < suc k → (n ≡ k) ⊎ (n < k)
+pub below_or_last : (n k : ℕ) → n < suc k → (n ≡ k) ⊎ (n < k)
 below_or_last n k lt =
     elim (cases_Bool (nat_eq n k)) [
       | inl e ↦ inl (eqb-true n k e)
@@ -97,7 +97,7 @@ each_has_row (suc k) n all lt =
       | inr l ↦ each_has_row k n parts.1 l
     ]
 
-at_most_three : (n : ℕ) → length (octet_digits n) ≤ 3
+pub at_most_three : (n : ℕ) → length (octet_digits n) ≤ 3
 at_most_three n = elim (cases_Bool (nat_lt n 10)) [
   | inl a ↦ rw a (omega arith)
   | inr a ↦ elim (cases_Bool (nat_lt n 100)) [

@@ -1,32 +1,36 @@
--- What was read and planned is the text of the file.
+-- What was read and planned is what the file's events are decoded to.
 use Rattle.std.proofs.Common.{◌≡◌, ◌≢◌, ℕ, ◌+◌, Bool, true, false, cond, List, [], ◌∷◌, ◌++◌, inl, inr, length, map, refl, ap, sym, subst, ◌∙◌, arith, append_assoc, append-nil, length-append}
-use Rattle.std.specs.Prelude.{fold, flat_map, nat_eq}
+use Rattle.std.specs.Prelude.{fold, flat_map, nat_eq, Result}
 use Rattle.std.specs.List.{AllByRecursion, concat}
 use Rattle.std.proofs.lemmas.Bool.{cases_Bool, eqb-true}
-use Rattle.col_base.specs.declared.base.SessionKey.{SessionKey}
-use Rattle.col_base.specs.declared.base.Lifetimes.{Lifetimes}
 use Rattle.col_base.specs.declared.base.Transport.TheVariants.{File}
 use Rattle.wire_spec.specs.Stream.{IsFramed, IsCut}
-use Rattle.wire_spec.specs.Content.{Touch, Message}
+use Rattle.wire_spec.specs.declared.malformed.Malformed.{Malformed}
+use Rattle.wire_spec.specs.Content.{Message}
 use Rattle.arrival_spec.specs.declared.event.Scripted.{Scripted}
 use Rattle.arrival_spec.specs.declared.event.Scripted.TheVariants as event
 use Rattle.arrival_spec.specs.Events.{events_of}
-use Rattle.arrival_spec.specs.Sessions.{key_of}
 use Rattle.arrival_spec.specs.OneStream.{IsOneStream, one_session}
+use Rattle.arrival_spec.specs.Arrival.{Arrival}
+use Rattle.arrival_spec.specs.Sessions.{AreArrivals, nothing_yet}
 use Rattle.arrival_spec.proofs.OneStream.{nothing_arrives, one_stream_arrives}
-use Rattle.run_spec.specs.Judge.{touches_in}
-use Rattle.run_spec.specs.Decode.{DecodedSet, Item}
-use Rattle.run_spec.specs.Decode.Item.{Note}
-use Rattle.run_spec.specs.OneDomain.{SayMessages, AreDecodedInOrder, data_items}
-use Rattle.run_spec.proofs.OneDomain.{decoded_in_order}
+use Rattle.arrival_spec.proofs.UniqueLemmas.{one_list_of_arrivals}
+use Rattle.run_spec.specs.Decode.{DecodedSet, Item, AreDecodedTo}
+use Rattle.run_spec.specs.Decode.Item.{Note, Tick, Data}
+use Rattle.run_spec.specs.OneSession.{AreReadings, AreItemsInOrder}
+use Rattle.run_spec.proofs.OneSession.{session_decoded}
+use Rattle.run_spec.proofs.UniqueLemmas.{one_decoding}
 use Rattle.run_spec.specs.Result.{sets_text, item_text, default_life, IsFileText}
 use Rattle.text_spec.specs.Builtin.{builtin_rows}
-use Rattle.collector_top.specs.declared.plan.PlannedMessage.{PlannedMessage}
+use Rattle.collector_top.specs.declared.planned.PlannedSet.{PlannedSet}
+use Rattle.collector_top.specs.declared.planned.PlannedMessage.{PlannedMessage}
+use Rattle.collector_top.specs.declared.reading.Reading.{Reading}
+use Rattle.collector_top.specs.Printed.{IsPrinted}
 use Rattle.collector_top.specs.declared.reading.Phase.{Phase}
 use Rattle.collector_top.specs.declared.reading.Phase.TheVariants as phase
-use Rattle.collector_top.specs.declared.reading.Reading.{Reading}
-use Rattle.collector_top.specs.Reading.{before_all, after_event, reading_of}
-use Rattle.collector_top.specs.Stream.{PlansStream}
+use Rattle.collector_top.specs.Reading.{Stream, ReadsAs, before_all, after_event, reading_of}
+use Rattle.collector_top.specs.Built.{AreOfOneStream, IsPrintedItem, IsBuilt, sets_of}
+use Rattle.collector_top.specs.Session.{file_key, ArePlanned, AreAllPlanned, PlansSession}
 use Rattle.collector_top.proofs.PutLemmas.{text_of}
 
 -- what a reading says of the events that were read
@@ -44,11 +48,11 @@ concat_one : (pieces : List (List ℕ)) (piece : List ℕ) → concat pieces ++ 
 concat_one [] piece = sym (append-nil piece)
 concat_one (p ∷ pieces) piece = append_assoc p (concat pieces) piece ∙ ap (λ l. p ++ l) (concat_one pieces piece)
 
-abbrev pub Stands : Reading → List Scripted → Type 0
+abbrev pub Stands : Stream → List Scripted → Type 0
 Stands r events = StandsFor r.phase r.octets events
 
 -- an event of connection 0, or a strange one
-stream_step : (c : ℕ) (r next : Reading) (events : List Scripted) → (c ≡ 0 → Stands next events) → Stands (cond (nat_eq c 0) next (record r { phase = phase.Strange })) events
+stream_step : (c : ℕ) (r next : Stream) (events : List Scripted) → (c ≡ 0 → Stands next events) → Stands (cond (nat_eq c 0) next (record r { phase = phase.Strange })) events
 stream_step c r next events h =
     elim (cases_Bool (nat_eq c 0)) [
       | inl e ↦ subst (λ (b : Bool). Stands (cond b next (record r { phase = phase.Strange })) events) (sym e) (h (eqb-true c 0 e))
@@ -81,7 +85,7 @@ closes phase.Closed o c events s = stream_step c (record { phase = phase.Closed;
 closes phase.Strange o c events s = stream_step c (record { phase = phase.Strange; octets = o }) (record { phase = phase.Strange; octets = o }) (events ++ event.Closed c ∷ []) (λ e. tt)
 
 -- the reading stands for all events
-all_stand : (given : List Scripted) (r : Reading) (events : List Scripted) → Stands r events → Stands (fold after_event r given) (events ++ events_of given)
+all_stand : (given : List Scripted) (r : Stream) (events : List Scripted) → Stands r events → Stands (fold after_event r given) (events ++ events_of given)
 all_stand [] r events s = subst (λ (l : List Scripted). Stands r l) (sym (append-nil events)) s
 all_stand (event.NotYet ∷ given) r events s = all_stand given r events s
 all_stand (event.Opened c ∷ given) r events s =
@@ -98,60 +102,121 @@ all_stand (event.Tick t ∷ given) r events s =
 pub stands : (given : List Scripted) → Stands (reading_of given) (events_of given)
 stands given = all_stand given before_all [] (refl, refl)
 
-abbrev key : SessionKey
-key = key_of 0 0
+-- items of a file, in its session
+record IsDecodedFile (given : List Scripted) (items : List Item) : Type 0 where
+  pieces : List (List ℕ)
+  events : AreOfOneStream (events_of given) pieces
+  arrivals : List (Arrival (List ℕ))
+  arrive : AreArrivals 0 File given arrivals
+  all : List Item
+  decoded : AreDecodedTo File default_life arrivals all
+  text : text_of (map sets_of items) ≡ flat_map (item_text true builtin_rows) all
+  printed : AllByRecursion IsPrintedItem items → AllByRecursion IsPrintedItem all
+  only : AllByRecursion IsPrintedItem all → AllByRecursion IsPrintedItem items
 
--- the data items of a file have the texts of their sets
-data_text : (life : Lifetimes) (touches : List (ℕ × Touch)) (said : List Message) (decoded : List (List DecodedSet)) → AreDecodedInOrder life touches said decoded
-    → flat_map (item_text true builtin_rows) (data_items key said decoded) ≡ text_of decoded
-data_text life touches [] [] d = refl
-data_text life touches [] (y ∷ decoded) d = absurd d
-data_text life touches (m ∷ said) [] d = absurd d
-data_text life touches (m ∷ said) (y ∷ decoded) d = ap (λ t. sets_text true builtin_rows y ++ t) (data_text life (touches ++ touches_in m) said decoded d.1)
+-- notes before and behind the items of messages add nothing
+items_text : (items : List Item) (note : Item) → item_text true builtin_rows note ≡ [] → text_of (map sets_of items) ≡ flat_map (item_text true builtin_rows) (items ++ note ∷ [])
+items_text [] note e = sym (ap (λ l. l ++ []) e)
+items_text (Note k t o ∷ items) note e = items_text items note e
+items_text (Tick i n ∷ items) note e = items_text items note e
+items_text (Data k d x q decoded ∷ items) note e = ap (λ t. sets_text true builtin_rows decoded ++ t) (items_text items note e)
 
-note_last : (items : List Item) (note : Item) → item_text true builtin_rows note ≡ [] → flat_map (item_text true builtin_rows) (items ++ note ∷ []) ≡ flat_map (item_text true builtin_rows) items
-note_last [] note e = ap (λ l. l ++ []) e
-note_last (i ∷ items) note e = ap (λ t. item_text true builtin_rows i ++ t) (note_last items note e)
+printed_more : (items : List Item) (note : Item) → IsPrintedItem note → AllByRecursion IsPrintedItem items → AllByRecursion IsPrintedItem (items ++ note ∷ [])
+printed_more [] note n p = (n, tt)
+printed_more (i ∷ items) note n p = (p.0, printed_more items note n p.1)
 
-no_decoded : (said : List Message) (decoded : List (List DecodedSet)) → SayMessages [] said → AreDecodedInOrder default_life [] said decoded → text_of decoded ≡ []
-no_decoded [] [] s d = refl
-no_decoded [] (y ∷ decoded) s d = absurd d
-no_decoded (m ∷ said) decoded s d = absurd s
+printed_front : (items more : List Item) → AllByRecursion IsPrintedItem (items ++ more) → AllByRecursion IsPrintedItem items
+printed_front [] more p = tt
+printed_front (i ∷ items) more p = (p.0, printed_front items more p.1)
 
-no_messages : (messages : List (List ℕ)) → AllByRecursion IsFramed messages → concat messages ++ [] ≡ [] → messages ≡ []
-no_messages [] each e = refl
-no_messages (m ∷ messages) each e =
-    absurd (let h = each.0.header in let l : length (m ++ concat messages) ≡ length m + length (concat messages) = length-append m (concat messages) in
-    let z : length (m ++ concat messages ++ []) ≡ 0 = ap length e in let n : length (m ++ concat messages ++ []) ≡ length (m ++ concat messages) = ap length (append-nil (m ++ concat messages)) in omega arith)
+no_messages : (messages : List (List ℕ)) (rest : List ℕ) → AllByRecursion IsFramed messages → [] ≡ concat messages ++ rest → messages ≡ []
+no_messages [] rest each e = refl
+no_messages (m ∷ messages) rest each e =
+    let h = each.0.header in
+    let l : length (m ++ concat messages) ≡ length m + length (concat messages) = length-append m (concat messages) in
+    let all : length ((m ++ concat messages) ++ rest) ≡ length (m ++ concat messages) + length rest = length-append (m ++ concat messages) rest in
+    let z : 0 ≡ length ((m ++ concat messages) ++ rest) = ap (λ x. length x) e in
+    absurd (omega arith)
 
--- a file without events has no text
-empty_text : (given : List Scripted) (octets : List ℕ) (planned : List PlannedMessage) → events_of given ≡ [] → octets ≡ [] → (p : PlansStream octets planned) → IsFileText given (text_of p.decoded)
-empty_text given octets planned none empty p =
-    let messages : p.messages ≡ [] = no_messages p.messages p.cut.each (sym p.cut.whole ∙ empty) in
-    let nothing : text_of p.decoded ≡ [] = no_decoded p.said p.decoded (subst (λ (l : List (List ℕ)). SayMessages l p.said) messages p.say) (p.decodes default_life) in
-    record { arrivals = []; arrive = nothing_arrives 0 File given none; items = []; decoded = ([], tt, tt); is = nothing }
+no_items : (readings : List (Result Message Malformed)) (items : List Item) → AreReadings [] readings → AreItemsInOrder File default_life file_key [] readings items → items ≡ []
+no_items [] [] r d = refl
+no_items [] (i ∷ items) r d = absurd d
+no_items (x ∷ readings) items r d = absurd r
 
--- one stream has the text of its messages
-stream_text : (given : List Scripted) (octets : List ℕ) (planned : List PlannedMessage) (pieces : List (List ℕ)) → IsOneStream (events_of given) pieces → octets ≡ concat pieces → (p : PlansStream octets planned)
-    → IsFileText given (text_of p.decoded)
-stream_text given octets planned pieces one joined p =
-    let cut : IsCut (concat pieces) p.messages [] = subst (λ (s : List ℕ). IsCut s p.messages []) joined p.cut in
-    record {
-      arrivals = one_session 0 File p.messages;
-      arrive = one_stream_arrives 0 File given pieces p.messages [] one cut;
-      items = Note key File true ∷ data_items key p.said p.decoded ++ Note key File false ∷ [];
-      decoded = decoded_in_order key default_life p.domain p.messages p.said p.decoded p.say p.of (p.decodes default_life);
-      is = sym (note_last (data_items key p.said p.decoded) (Note key File false) refl ∙ data_text default_life [] p.said p.decoded (p.decodes default_life));
-    }
+-- a file without events
+empty_decoded : (given : List Scripted) (octets rest : List ℕ) (messages : List (List ℕ)) (readings : List (Result Message Malformed)) (items : List Item) → events_of given ≡ [] → octets ≡ [] → IsCut octets messages rest → AreReadings messages readings
+    → AreItemsInOrder File default_life file_key [] readings items → IsDecodedFile given items
+empty_decoded given octets rest messages readings items none empty cut read decode =
+    let messages_none : messages ≡ [] = no_messages messages rest cut.each (sym empty ∙ cut.whole) in
+    let items_none : items ≡ [] = no_items readings items (subst (λ (l : List (List ℕ)). AreReadings l readings) messages_none read) decode in
+    let nothing : IsDecodedFile given [] = record {
+      pieces = [];
+      events = inl (none, refl);
+      arrivals = [];
+      arrive = nothing_arrives 0 File given none;
+      all = [];
+      decoded = ([], tt, tt);
+      text = refl;
+      printed = λ p. p;
+      only = λ p. p;
+    } in
+    subst (λ (l : List Item). IsDecodedFile given l) (sym items_none) nothing
 
-text_by : (ph : Phase) (given : List Scripted) (octets : List ℕ) (planned : List PlannedMessage) → ph ≢ phase.Strange → StandsFor ph octets (events_of given) → (p : PlansStream octets planned) → IsFileText given (text_of p.decoded)
-text_by phase.Before given octets planned ne s p = empty_text given octets planned s.0 s.1 p
-text_by phase.Open given octets planned ne s p = stream_text given octets planned s.0 (inl s.1) s.2 p
-text_by phase.Closed given octets planned ne s p = stream_text given octets planned s.0 (inr s.1) s.2 p
-text_by phase.Strange given octets planned ne s p = absurd (ne refl)
+-- a file of one stream
+stream_decoded : (given : List Scripted) (octets rest : List ℕ) (pieces messages : List (List ℕ)) (readings : List (Result Message Malformed)) (items : List Item) → IsOneStream (events_of given) pieces → octets ≡ concat pieces
+    → IsCut octets messages rest → AreReadings messages readings → AreItemsInOrder File default_life file_key [] readings items → IsDecodedFile given items
+stream_decoded given octets rest pieces messages readings items one joined cut read decode = record {
+  pieces = pieces;
+  events = inr one;
+  arrivals = one_session 0 File messages;
+  arrive = one_stream_arrives 0 File given pieces messages rest one (subst (λ (s : List ℕ). IsCut s messages rest) joined cut);
+  all = Note file_key File true ∷ items ++ Note file_key File false ∷ [];
+  decoded = session_decoded File default_life file_key messages readings items read decode;
+  text = items_text items (Note file_key File false) refl;
+  printed = λ p. (tt, printed_more items (Note file_key File false) tt p);
+  only = λ p. printed_front items (Note file_key File false ∷ []) p.1;
+}
+
+decoded_by : (ph : Phase) (given : List Scripted) (octets rest : List ℕ) (messages : List (List ℕ)) (readings : List (Result Message Malformed)) (items : List Item) → ph ≢ phase.Strange → StandsFor ph octets (events_of given)
+    → IsCut octets messages rest → AreReadings messages readings → AreItemsInOrder File default_life file_key [] readings items → IsDecodedFile given items
+decoded_by phase.Before given octets rest messages readings items ne s cut read decode = empty_decoded given octets rest messages readings items s.0 s.1 cut read decode
+decoded_by phase.Open given octets rest messages readings items ne s cut read decode = stream_decoded given octets rest s.0 messages readings items (inl s.1) s.2 cut read decode
+decoded_by phase.Closed given octets rest messages readings items ne s cut read decode = stream_decoded given octets rest s.0 messages readings items (inr s.1) s.2 cut read decode
+decoded_by phase.Strange given octets rest messages readings items ne s cut read decode = absurd (ne refl)
+
+file_decoded : (given : List Scripted) (r : Reading) (planned : List PlannedMessage) (built : Bool) → ReadsAs r (reading_of given) → r.phase ≢ phase.Strange → (p : PlansSession r.messages.items planned built) → IsDecodedFile given p.items
+file_decoded given r planned built reads ne p =
+    decoded_by (reading_of given).phase given (reading_of given).octets reads.cut.0 r.messages.items p.readings p.items (λ e. ne (reads.same ∙ e)) (stands given) reads.cut.1 p.read (p.decode default_life)
+
+-- what is planned is printed
+set_printed : (planned : List PlannedSet) (decoded : List DecodedSet) → ArePlanned planned decoded → AllByRecursion (λ d. IsPrinted d.definition) decoded
+set_printed [] [] p = tt
+set_printed [] (d ∷ decoded) p = absurd p
+set_printed (x ∷ planned) [] p = absurd p
+set_printed (x ∷ planned) (d ∷ decoded) p = (p.0.printed, set_printed planned decoded p.1)
+
+pub all_printed : (planned : List PlannedMessage) (items : List Item) → AreAllPlanned planned (map sets_of items) → AllByRecursion IsPrintedItem items
+all_printed [] [] p = tt
+all_printed [] (i ∷ items) p = absurd p
+all_printed (x ∷ planned) [] p = absurd p
+all_printed (x ∷ planned) (i ∷ items) p = (set_printed x.sets.items (sets_of i) p.0, all_printed planned items p.1)
 
 -- What was read and planned is the text of the file.
-pub file_text : (given : List Scripted) (r : Reading) (planned : List PlannedMessage) → r ≡ reading_of given → r.phase ≢ phase.Strange → (p : PlansStream r.octets planned) → IsFileText given (text_of p.decoded)
-file_text given r planned e ne p =
-    let s : Stands r (events_of given) = subst (λ (x : Reading). Stands x (events_of given)) (sym e) (stands given) in
-    text_by r.phase given r.octets planned ne s p
+pub file_text : (given : List Scripted) (r : Reading) (planned : List PlannedMessage) → ReadsAs r (reading_of given) → r.phase ≢ phase.Strange → (p : PlansSession r.messages.items planned true) → IsFileText given (text_of (map sets_of p.items))
+file_text given r planned reads ne p =
+    let d = file_decoded given r planned true reads ne p in
+    record { arrivals = d.arrivals; arrive = d.arrive; items = d.all; decoded = d.decoded; is = d.text }
+
+-- And the file is built.
+pub file_built : (given : List Scripted) (r : Reading) (planned : List PlannedMessage) → ReadsAs r (reading_of given) → r.phase ≢ phase.Strange → PlansSession r.messages.items planned true → IsBuilt given
+file_built given r planned reads ne p =
+    let d = file_decoded given r planned true reads ne p in
+    record { pieces = d.pieces; events = d.events; arrivals = d.arrivals; arrive = d.arrive; items = d.all; decoded = d.decoded; printed = d.printed (all_printed planned p.items (p.are refl)) }
+
+-- A file of which not all is planned is not built.
+pub file_not_built : (given : List Scripted) (r : Reading) (planned : List PlannedMessage) → ReadsAs r (reading_of given) → r.phase ≢ phase.Strange → PlansSession r.messages.items planned false → IsBuilt given → ⊥
+file_not_built given r planned reads ne p b =
+    let d = file_decoded given r planned false reads ne p in
+    let arrivals : b.arrivals ≡ d.arrivals = one_list_of_arrivals 0 File nothing_yet given b.arrivals d.arrivals b.arrive d.arrive in
+    let items : b.items ≡ d.all = one_decoding File default_life d.arrivals b.items d.all (subst (λ (l : List (Arrival (List ℕ))). AreDecodedTo File default_life l b.items) arrivals b.decoded) d.decoded in
+    p.other refl (d.only (subst (λ (l : List Item). AllByRecursion IsPrintedItem l) items b.printed))

@@ -1,15 +1,5 @@
 pub mod ReadingLemmas
 pub mod NameLemmas
-pub mod LineLemmas
-pub mod BodyLemmas
-pub mod ShapeLemmas
-pub mod TemplateLemmas
-pub mod FormLemmas
-pub mod SetLemmas
-pub mod MessageLemmas
-pub mod RecordLemmas
-pub mod PlanLemmas
-pub mod StreamLemmas
 pub mod PutLemmas
 pub mod FileLemmas
 pub mod EventLemmas
@@ -17,3 +7,9 @@ pub mod DirectLemmas
 pub mod LeavesLemmas
 pub mod ReportLemmas
 pub mod DottedLemmas
+pub mod TemplateTableLemmas
+pub mod SessionTemplatesLemmas
+pub mod PlanLemmas
+pub mod PieceLemmas
+pub mod PrintedLemmas
+pub mod RecordsLemmas

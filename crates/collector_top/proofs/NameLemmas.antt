@@ -1,44 +1,21 @@
 -- The names and types of the plain elements.
-use Rattle.std.proofs.Common.{◌≡◌, ◌≤◌, ℕ, true, cond, List, Some, inl, inr, refl, ap, sym, ◌∙◌}
-use Rattle.std.specs.Prelude.{decimal, nat_eq, nat_le, ◌&&◌, ◌||◌, Option, length}
+use Rattle.std.proofs.Common.{◌≡◌, ◌≤◌, ℕ, true, cond, List, Some, inl, inr, ap, sym, ◌∙◌}
+use Rattle.std.specs.Prelude.{decimal, nat_eq, nat_le, ◌&&◌, ◌||◌, length}
 use Rattle.std.specs.List.{join_by}
 use Rattle.std.proofs.lemmas.Bool.{and_parts, or_cases, eqb-true, eq-eqb, ne_eqb, leb-true}
 use Rattle.wire_spec.specs.declared.field.FieldSpec.{FieldSpec}
-use Rattle.text_spec.specs.Marks.{before_name, after_name, colon, dot}
+use Rattle.text_spec.specs.Marks.{dot}
 use Rattle.text_spec.specs.Number.{number_of}
-use Rattle.text_spec.specs.Value.{value_text, covered_text, quoted}
+use Rattle.text_spec.specs.Value.{quoted}
 use Rattle.text_spec.specs.declared.element.ElementType.{ElementType}
-use Rattle.text_spec.specs.Name.{find_element, name_text, type_at}
+use Rattle.text_spec.specs.Name.{type_at}
 use Rattle.text_spec.specs.Builtin.{builtin_rows}
 use Rattle.text_spec.specs.Fields.{pair_of}
 use Rattle.text_spec.specs.Json.{member_name, text_at}
 use Rattle.text_spec.specs.declared.element.ElementType.TheVariants as T
-use Rattle.collector_top.specs.Plain.{is_plain, count_name, source_name, destination_name}
-
--- each name is that of the built-in table
-count_member : member_name builtin_rows (record { pen = 0; id = 1 }) ≡ count_name
-unfolding count_name before_name after_name colon name_text find_element builtin_rows
-count_member = refl
-
-source_member : member_name builtin_rows (record { pen = 0; id = 8 }) ≡ source_name
-unfolding source_name before_name after_name colon name_text find_element builtin_rows
-source_member = refl
-
-destination_member : member_name builtin_rows (record { pen = 0; id = 12 }) ≡ destination_name
-unfolding destination_name before_name after_name colon name_text find_element builtin_rows
-destination_member = refl
-
-count_type : type_at builtin_rows 0 1 ≡ Some T.Unsigned64
-unfolding type_at find_element builtin_rows
-count_type = refl
-
-source_type : type_at builtin_rows 0 8 ≡ Some T.Ipv4Address
-unfolding type_at find_element builtin_rows
-source_type = refl
-
-destination_type : type_at builtin_rows 0 12 ≡ Some T.Ipv4Address
-unfolding type_at find_element builtin_rows
-destination_type = refl
+use Rattle.collector_top.specs.Plain.{is_plain}
+use Rattle.collector_top.specs.Pieces.{count_name, source_name, destination_name}
+use Rattle.collector_top.proofs.PrintedLemmas.{count_member, source_member, destination_member, count_type, source_type, destination_type, typed, covered_number, covered_address}
 
 -- a plain field has no enterprise number
 plain_pen : (field : FieldSpec) → is_plain field ≡ true → field.pen ≡ 0
@@ -65,17 +42,6 @@ source_named field plain is = member_of field 8 source_name plain is source_memb
 
 pub destination_named : (field : FieldSpec) → is_plain field ≡ true → (field.id ≡ 1 → ⊥) → (field.id ≡ 8 → ⊥) → member_name builtin_rows (pair_of field) ≡ destination_name
 destination_named field plain one eight = member_of field 12 destination_name plain (last_id field plain one eight) destination_member
-
--- the value of a plain field has the text of its type
-typed : (kind : Option ElementType) (k : ElementType) (value text : List ℕ) → kind ≡ Some k → covered_text k value ≡ Some text → value_text kind value ≡ text
-unfolding value_text
-typed kind k value text is covered = rw (is, covered) refl
-
-covered_number : (value : List ℕ) → nat_le 1 (length value) ≡ true → nat_le (length value) 8 ≡ true → covered_text T.Unsigned64 value ≡ Some (decimal (number_of value))
-covered_number value least most = rw (least, most) refl
-
-covered_address : (value : List ℕ) → nat_eq (length value) 4 ≡ true → covered_text T.Ipv4Address value ≡ Some (quoted (join_by decimal dot value))
-covered_address value four = rw four refl
 
 plain_one : (field : FieldSpec) → is_plain field ≡ true → field.id ≡ 1 → (nat_le 1 field.len && nat_le field.len 8) ≡ true
 plain_one field plain one =

@@ -2,7 +2,7 @@
 use Rattle.std.proofs.Common.{◌≡◌, ℕ, suc, ◌+◌, ◌<◌, true, cond, List, [], ◌∷◌, ◌++◌, length, take, drop, get_or, Option, Some, None, refl, ap, sym, subst, ◌∙◌, add-one, drop-cons, append_assoc, append-nil}
 use Rattle.std.specs.Prelude.{Result, Ok, Err, flat_map}
 use Rattle.std.proofs.lemmas.List.{take-append-drop}
-use Rattle.wire_spec.specs.declared.field.FieldSpec.{FieldSpec}
+use Rattle.col_base.specs.declared.base.Kind.{Kind}
 use Rattle.wire_spec.specs.Content.{Definition}
 use Rattle.run_spec.specs.Decode.{Record, DecodedSet, AreRecordsOf}
 use Rattle.run_spec.specs.Result.{record_text, is_printed, set_text, sets_text}
@@ -10,10 +10,10 @@ use Rattle.site_io.specs.declared.outside.OutsideFault.{OutsideFault}
 use Rattle.site_io.specs.declared.outside.OutsideFault.TheVariants.{Failed, NoMemory}
 use Rattle.site_io.specs.Writes.{Grows, Writes}
 use Rattle.text_spec.specs.Builtin.{builtin_rows}
-use Rattle.collector_top.specs.declared.plan.PlannedSet.{PlannedSet}
-use Rattle.collector_top.specs.declared.plan.PlannedMessage.{PlannedMessage}
-use Rattle.collector_top.specs.Plain.{plain_definition, plain_line}
-use Rattle.collector_top.specs.Plan.{ArePlanned, AreAllPlanned}
+use Rattle.collector_top.specs.declared.planned.PlannedSet.{PlannedSet}
+use Rattle.collector_top.specs.declared.planned.PlannedMessage.{PlannedMessage}
+use Rattle.collector_top.specs.Printed.{IsPrinted}
+use Rattle.collector_top.specs.Session.{ArePlanned, AreAllPlanned}
 use Rattle.collector_top.specs.Put.{GrowsByFront, PutsText}
 
 pub grows_none : (old : Option (List ℕ)) → Grows old old []
@@ -54,9 +54,9 @@ puts_behind old now new text more (Err f) g p = record {
 left_begins : {X : Type 0} (items : List X) (i : ℕ) (item : X) → i < length items → item ≡ get_or items i item → drop i items ≡ item ∷ drop (i + 1) items
 left_begins items i item lt is = drop-cons items i item lt ∙ (ap (λ x. x ∷ drop (suc i) items) (sym is) ∙ ap (λ j. item ∷ drop j items) (sym (add-one i)))
 
--- the lines of a set of a plain template
-set_plain : (d : DecodedSet) (fields : List FieldSpec) → d.definition ≡ plain_definition fields → set_text true builtin_rows d ≡ flat_map (plain_line fields) d.records
-set_plain d fields e = ap (λ (def : Definition). cond (is_printed true def.kind) (flat_map (record_text builtin_rows def) d.records) []) e
+-- the lines of a planned set are those of its records
+set_lines : (d : DecodedSet) → IsPrinted d.definition → set_text true builtin_rows d ≡ flat_map (record_text builtin_rows d.definition) d.records
+set_lines d p = ap (λ (kind : Kind). cond (is_printed true kind) (flat_map (record_text builtin_rows d.definition) d.records) []) p.kind
 
 -- one set further
 abbrev pub SetsSoFar : List PlannedSet → List PlannedSet → List ℕ → List ℕ → Type 0
@@ -64,18 +64,21 @@ SetsSoFar sets left old out = (decoded : List DecodedSet) → ArePlanned sets de
     → (more : List DecodedSet) × ArePlanned left more × (old ++ sets_text true builtin_rows decoded ≡ out ++ sets_text true builtin_rows more)
 
 abbrev pub PutsBody : PlannedSet → List ℕ → List ℕ → Type 0
-PutsBody p out next = (records : List Record) → AreRecordsOf (plain_definition p.shape.value.fields.items) p.body.now records → next ≡ out ++ flat_map (plain_line p.shape.value.fields.items) records
+PutsBody p out next = (records : List Record) → AreRecordsOf p.definition.value p.body.now records → next ≡ out ++ flat_map (record_text builtin_rows p.definition.value) records
 
 one_set : (p : PlannedSet) (left : List PlannedSet) (old out next : List ℕ) (decoded more : List DecodedSet) → ArePlanned (p ∷ left) more → PutsBody p out next
     → old ++ sets_text true builtin_rows decoded ≡ out ++ sets_text true builtin_rows more
     → (rest : List DecodedSet) × ArePlanned left rest × (old ++ sets_text true builtin_rows decoded ≡ next ++ sets_text true builtin_rows rest)
 one_set p left old out next decoded [] are put e = absurd are
-one_set p left old out next decoded (d ∷ more) are put e = (
-  more,
-  are.1,
-  e ∙ (sym (append_assoc out (set_text true builtin_rows d) (sets_text true builtin_rows more))
-      ∙ ap (λ l. l ++ sets_text true builtin_rows more) (ap (λ t. out ++ t) (set_plain d p.shape.value.fields.items are.0.definition) ∙ sym (put d.records are.0.records))),
-)
+one_set p left old out next decoded (d ∷ more) are put e =
+    let same = are.0.definition in
+    let lines : next ≡ out ++ flat_map (record_text builtin_rows d.definition) d.records =
+    subst (λ (def : Definition). next ≡ out ++ flat_map (record_text builtin_rows def) d.records) (sym same) (put d.records (subst (λ (def : Definition). AreRecordsOf def p.body.now d.records) same are.0.records)) in (
+      more,
+      are.1,
+      e ∙ (sym (append_assoc out (set_text true builtin_rows d) (sets_text true builtin_rows more))
+          ∙ ap (λ l. l ++ sets_text true builtin_rows more) (ap (λ t. out ++ t) (set_lines d are.0.printed) ∙ sym lines)),
+    )
 
 pub sets_further : (sets : List PlannedSet) (i : ℕ) (p : PlannedSet) (old out next : List ℕ) → i < length sets → p ≡ get_or sets i p → PutsBody p out next → SetsSoFar sets (drop i sets) old out → SetsSoFar sets (drop (i + 1) sets) old next
 sets_further sets i p old out next lt is put so decoded are =

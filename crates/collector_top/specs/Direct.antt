@@ -11,7 +11,7 @@ use Rattle.collector_top.specs.declared.direct.Outcome.{Outcome}
 use Rattle.collector_top.specs.declared.direct.Outcome.TheVariants as outcome
 use Rattle.collector_top.specs.Reading.{TakenFrom, IsNothingLeft, ReadCounts}
 use Rattle.collector_top.specs.Put.{GrowsByFront}
-use Rattle.collector_top.specs.FirstForm.{IsFirstForm}
+use Rattle.collector_top.specs.Built.{IsBuilt}
 use Rattle.collector_top.specs.Report.{HasStatus, SaysLines, outcome_text}
 
 -- how the reading ended: at the end nothing is left, and at the limit so many answers were given
@@ -31,10 +31,10 @@ HasFront held now_held given = (text : List ℕ) × IsFileText given text × Gro
 
 -- what came of reading these events and writing their text
 abbrev pub Comes : Option (List Scripted) → Option (List Scripted) → Option (List ℕ) → Option (List ℕ) → List Scripted → Outcome → Type 0
-Comes left now_left held now_held given (outcome.Written e) = EndsReading left now_left given e × IsFirstForm given × HasText held now_held given
-Comes left now_left held now_held given (outcome.SinkFailed e) = EndsReading left now_left given e × IsFirstForm given × HasFront held now_held given
-Comes left now_left held now_held given (outcome.NotBuilt e) = EndsReading left now_left given e × (IsFirstForm given → ⊥) × Grows held now_held []
-Comes left now_left held now_held given outcome.Memory = Grows held now_held [] ⊎ (IsFirstForm given × HasFront held now_held given)
+Comes left now_left held now_held given (outcome.Written e) = EndsReading left now_left given e × IsBuilt given × HasText held now_held given
+Comes left now_left held now_held given (outcome.SinkFailed e) = EndsReading left now_left given e × IsBuilt given × HasFront held now_held given
+Comes left now_left held now_held given (outcome.NotBuilt e) = EndsReading left now_left given e × (IsBuilt given → ⊥) × Grows held now_held []
+Comes left now_left held now_held given outcome.Memory = Grows held now_held [] ⊎ (IsBuilt given × HasFront held now_held given)
 Comes left now_left held now_held given outcome.NoSource = ⊥
 Comes left now_left held now_held given outcome.NoSink = ⊥
 
@@ -118,46 +118,46 @@ Ended place now_place given = IsNothingLeft place.left now_place.left ⊎ (Rose 
 -- what each outcome leaves: the place has lost what was given, and the sink name shows what was written
 abbrev pub LeavesAfter : PlaceSeen → PlaceSeen → SinkSeen → SinkSeen → Outcome → Type 0
 LeavesAfter place now_place sink now_sink (outcome.Written e) =
-    (given : List Scripted) × Took place now_place given × EndsReading place.left now_place.left given e × IsFirstForm given × HoldsText sink now_sink given
+    (given : List Scripted) × Took place now_place given × EndsReading place.left now_place.left given e × IsBuilt given × HoldsText sink now_sink given
 LeavesAfter place now_place sink now_sink (outcome.SinkFailed e) =
-    (given : List Scripted) × Took place now_place given × EndsReading place.left now_place.left given e × IsFirstForm given × HoldsFront sink now_sink given
+    (given : List Scripted) × Took place now_place given × EndsReading place.left now_place.left given e × IsBuilt given × HoldsFront sink now_sink given
 LeavesAfter place now_place sink now_sink (outcome.NotBuilt e) =
-    (given : List Scripted) × Took place now_place given × EndsReading place.left now_place.left given e × (IsFirstForm given → ⊥) × Holds sink.held now_sink.held []
+    (given : List Scripted) × Took place now_place given × EndsReading place.left now_place.left given e × (IsBuilt given → ⊥) × Holds sink.held now_sink.held []
 LeavesAfter place now_place sink now_sink outcome.Memory =
-    (given : List Scripted) × Took place now_place given × ((now_sink.held ≡ sink.held) ⊎ (Holds sink.held now_sink.held [] ⊎ (IsFirstForm given × HoldsFront sink now_sink given)))
+    (given : List Scripted) × Took place now_place given × ((now_sink.held ≡ sink.held) ⊎ (Holds sink.held now_sink.held [] ⊎ (IsBuilt given × HoldsFront sink now_sink given)))
 LeavesAfter place now_place sink now_sink outcome.NoSource = LeavesAll place now_place sink now_sink
 LeavesAfter place now_place sink now_sink outcome.NoSink = LeavesAll place now_place sink now_sink
 
 -- 0: all was given, and its text was written
 abbrev pub LeavesDone : PlaceSeen → PlaceSeen → SinkSeen → SinkSeen → Type 0
 LeavesDone place now_place sink now_sink =
-    (given : List Scripted) × Took place now_place given × EndsReading place.left now_place.left given end.End × IsFirstForm given × HoldsText sink now_sink given
+    (given : List Scripted) × Took place now_place given × EndsReading place.left now_place.left given end.End × IsBuilt given × HoldsText sink now_sink given
 
 -- 2: what was given isn't in the first form, and nothing was written
 abbrev pub LeavesNotBuilt : PlaceSeen → PlaceSeen → SinkSeen → SinkSeen → Type 0
-LeavesNotBuilt place now_place sink now_sink = (given : List Scripted) × Took place now_place given × Ended place now_place given × (IsFirstForm given → ⊥) × Holds sink.held now_sink.held []
+LeavesNotBuilt place now_place sink now_sink = (given : List Scripted) × Took place now_place given × Ended place now_place given × (IsBuilt given → ⊥) × Holds sink.held now_sink.held []
 
 -- 3: the place was not opened, or the text of what was given before the fault was written
 abbrev pub LeavesFault : PlaceSeen → PlaceSeen → SinkSeen → SinkSeen → Type 0
 LeavesFault place now_place sink now_sink =
     LeavesAll place now_place sink now_sink
-    ⊎ ((given : List Scripted) × Took place now_place given × EndsReading place.left now_place.left given end.Fault × IsFirstForm given × HoldsText sink now_sink given)
+    ⊎ ((given : List Scripted) × Took place now_place given × EndsReading place.left now_place.left given end.Fault × IsBuilt given × HoldsText sink now_sink given)
 
 -- 4: the sink was not opened, or a front of the text was written
 abbrev pub LeavesFailed : PlaceSeen → PlaceSeen → SinkSeen → SinkSeen → Type 0
 LeavesFailed place now_place sink now_sink =
     LeavesAll place now_place sink now_sink
-    ⊎ ((given : List Scripted) × Took place now_place given × Ended place now_place given × (length given < 2 ^ 48) × IsFirstForm given × HoldsFront sink now_sink given)
+    ⊎ ((given : List Scripted) × Took place now_place given × Ended place now_place given × (length given < 2 ^ 48) × IsBuilt given × HoldsFront sink now_sink given)
 
 -- 5: the most answers that are taken were given, and a front of their text was written
 abbrev pub LeavesLimit : PlaceSeen → PlaceSeen → SinkSeen → SinkSeen → Type 0
 LeavesLimit place now_place sink now_sink =
-    (given : List Scripted) × Took place now_place given × EndsReading place.left now_place.left given end.Limit × IsFirstForm given × HoldsFront sink now_sink given
+    (given : List Scripted) × Took place now_place given × EndsReading place.left now_place.left given end.Limit × IsBuilt given × HoldsFront sink now_sink given
 
 -- 6: the sink was not opened, or holds nothing, or a front of the text
 abbrev pub LeavesWanting : PlaceSeen → PlaceSeen → SinkSeen → SinkSeen → Type 0
 LeavesWanting place now_place sink now_sink =
-    (given : List Scripted) × Took place now_place given × ((now_sink.held ≡ sink.held) ⊎ (Holds sink.held now_sink.held [] ⊎ (IsFirstForm given × HoldsFront sink now_sink given)))
+    (given : List Scripted) × Took place now_place given × ((now_sink.held ≡ sink.held) ⊎ (Holds sink.held now_sink.held [] ⊎ (IsBuilt given × HoldsFront sink now_sink given)))
 
 -- each status, with what it leaves at the place and the sink name
 abbrev pub Leaves : PlaceSeen → PlaceSeen → SinkSeen → SinkSeen → ℕ → Type 0
@@ -169,10 +169,10 @@ Leaves place now_place sink now_sink status =
     ⊎ (((status ≡ 5) × LeavesLimit place now_place sink now_sink)
     ⊎ ((status ≡ 6) × LeavesWanting place now_place sink now_sink)))))
 
--- where the place has events in the first form, fewer than the most that are taken, and no count rises, all is done, or memory was wanted
+-- where the place has events that are built, fewer than the most that are taken, and no count rises, all is done, or memory was wanted
 abbrev pub Completes : PlaceSeen → PlaceSeen → SinkSeen → SinkSeen → SaidSeen → SaidSeen → ℕ → Type 0
 Completes place now_place sink now_sink say now_say status =
-    (events : List Scripted) → place.left ≡ Some events → IsFirstForm events → length events < 2 ^ 48
+    (events : List Scripted) → place.left ≡ Some events → IsBuilt events → length events < 2 ^ 48
     → (Rose place.faults now_place.faults → ⊥) → (Rose sink.faults now_sink.faults → ⊥) → (Rose say.faults now_say.faults → ⊥)
     → (status ≡ 0) ⊎ (status ≡ 6)
 

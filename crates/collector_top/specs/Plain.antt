@@ -1,6 +1,6 @@
 -- Which fields `direct` prints until every element is built: octetDeltaCount and the two IPv4 addresses of a
 -- flow, each at most once in a template.
-use Rattle.std.specs.Prelude.{ℕ, ◌+◌, ◌==◌, ◌&&◌, ◌||◌, if◌then◌else◌, Bool, nat_le, List, [], ◌∷◌, ◌++◌, codes, take, drop, nat_lt, ◌/◌, ◌%◌}
+use Rattle.std.specs.Prelude.{ℕ, ◌+◌, ◌==◌, ◌&&◌, ◌||◌, if◌then◌else◌, Bool, nat_le, List, [], ◌∷◌, take, drop}
 use Rattle.std.specs.List.{list_all}
 use Rattle.col_base.specs.declared.base.Kind.TheVariants.{Template}
 use Rattle.wire_spec.specs.declared.field.FieldSpec.{FieldSpec}
@@ -27,29 +27,6 @@ fixed_size (field ∷ fields) = field.len + fixed_size fields
 abbrev pub fixed_values : List FieldSpec → List ℕ → List (List ℕ)
 fixed_values [] octets = []
 fixed_values (field ∷ fields) octets = take field.len octets ∷ fixed_values fields (drop field.len octets)
-
--- the names of these elements, as members of a line
-unfoldable pub count_name : List ℕ
-count_name = codes ",\"iana:octetDeltaCount\":"
-
-unfoldable pub source_name : List ℕ
-source_name = codes ",\"iana:sourceIPv4Address\":"
-
-unfoldable pub destination_name : List ℕ
-destination_name = codes ",\"iana:destinationIPv4Address\":"
-
--- the digits of an octet
-abbrev pub octet_digits : ℕ → List ℕ
-octet_digits n = if nat_lt n 10 then (48 + n % 10) ∷ []
-    else (if nat_lt n 100 then (48 + n / 10 % 10) ∷ (48 + n % 10) ∷ [] else (48 + n / 100) ∷ (48 + n / 10 % 10) ∷ (48 + n % 10) ∷ [])
-
--- an octet and the mark behind it
-abbrev pub marked : ℕ → ℕ → List ℕ
-marked n mark = octet_digits n ++ mark ∷ []
-
--- four octets with dots between, in quotes
-abbrev pub dotted : ℕ → ℕ → ℕ → ℕ → List ℕ
-dotted a b c d = 34 ∷ [] ++ marked a 46 ++ marked b 46 ++ marked c 46 ++ marked d 34
 
 -- what a template record of these fields defines
 abbrev pub plain_definition : List FieldSpec → Definition

@@ -3,7 +3,7 @@ ghost use Rattle.std.specs.Prelude.{◌≡◌, ◌≤◌, ◌<◌, ◌+◌, ◌*
 ghost use Rattle.std.specs.List.{join_by};
 ghost use Rattle.text_spec.specs.Marks.{dot};
 ghost use Rattle.text_spec.specs.Value.{quoted};
-ghost use Rattle.collector_top.specs.Plain.{dotted, marked, octet_digits};
+ghost use Rattle.collector_top.specs.Pieces.{dotted, marked, octet_digits};
 
 use col_base::Octets;
 use std::alloc::AllocError;

@@ -1,17 +1,17 @@
 // The command `direct`: one file to JSON lines, on the calling thread.
-ghost use Rattle.std.specs.Prelude.{◌≡◌, ◌≢◌, ◌≤◌, ◌<◌, ◌⊎◌, ◌^◌, ◌↔◌, ℕ, Err, IsTrue, List, IfOk, IfSome, MatchOption, None, map, string_bytes};
+ghost use Rattle.std.specs.Prelude.{◌≡◌, ◌≢◌, ◌≤◌, ◌<◌, ◌⊎◌, ◌^◌, ◌↔◌, ℕ, Err, IsTrue, List, IfOk, IfSome, MatchBool, MatchOption, None, map, string_bytes};
+ghost use Rattle.std.specs.List.{list_all};
 ghost use Rattle.arrival_spec.specs.declared.event.Scripted.{Scripted};
 ghost use Rattle.collector_top.specs.Reading.{TakenFrom};
-ghost use Rattle.collector_top.specs.Stream.{PlansStream};
-ghost use Rattle.collector_top.specs.Found.{IsSomePlainStream};
+ghost use Rattle.collector_top.specs.Session.{IsNotPlanned, IsAllPlanned};
 ghost use Rattle.collector_top.specs.Direct.{Comes, CountsFaults, ShowsOutcome, ChangesPlaceAndSink, LeavesAfter, RunsDirect, Leaves, Reports, Completes};
 
-use crate::plan::PlannedMessage;
+use crate::planned::PlannedMessage;
 use crate::put::put_messages;
 use crate::reading::{Phase, ReadEnd, Reading, read_all};
 use crate::report::report;
-use crate::stream::plan_stream;
-use col_base::{Octets, Text, Transport};
+use crate::session::plan_session;
+use col_base::{Text, Transport, WantOfMemory};
 use site_io::{InputSpec, OutsideFault, Sink, Site, Source};
 use std::alloc::{AllocError, Global};
 
@@ -31,18 +31,35 @@ pub enum Outcome {
     SinkFailed(ReadEnd),
 }
 
-/// What is to be printed of what was read. None where it has a form that isn't built yet.
-fn plan(alloc: Global, reading: &Reading) -> Result<Option<Vec<PlannedMessage<'_>>>, AllocError>
-    ensures phase { IfOk result (λ found. IfSome found (λ planned. reading.now.phase ≢ Phase.Strange)) }
-    ensures stream { IfOk result (λ found. IfSome found (λ planned. PlansStream reading.now.octets planned.items)) }
-    ensures form { IfOk result (λ found. MatchOption found
-        (reading.now.phase ≢ Phase.Strange → IsSomePlainStream reading.now.octets → ⊥)
-        (λ planned. IsSomePlainStream reading.now.octets)) }
+/// Whether all data sets of all messages are printed.
+fn are_built(planned: &[PlannedMessage<'_>]) -> bool
+    ensures { result ≡ list_all (λ m. m.is_built) planned.now }
 {
-    if reading.phase == Phase::Strange {
+    planned.iter().all(|message| message.is_built)
+}
+
+/// Whether events came that are not those of one stream.
+fn is_strange(phase: Phase) -> bool
+    ensures { MatchBool result (phase ≡ Phase.Strange) (phase ≢ Phase.Strange) }
+{
+    match phase {
+        Phase::Strange => true,
+        Phase::Before | Phase::Open | Phase::Closed => false,
+    }
+}
+
+/// What is to be printed of what was read. None where it isn't built.
+fn plan(alloc: Global, reading: &Reading) -> Result<Option<Vec<PlannedMessage<'_>>>, WantOfMemory>
+    ensures { IfOk result (λ found. MatchOption found (IsNotPlanned reading.now) (λ planned. IsAllPlanned reading.now planned.items)) }
+{
+    if is_strange(reading.phase) {
         return Ok(None);
     }
-    plan_stream(alloc, reading.octets.as_slice())
+    let planned = plan_session(alloc, &reading.messages)?;
+    if !are_built(&planned) {
+        return Ok(None);
+    }
+    Ok(Some(planned))
 }
 
 /// Whether the reading ended for want of memory.
@@ -61,10 +78,7 @@ fn run_open<S: Source, K: Sink>(alloc: Global, source: &mut S, sink: &mut K) -> 
         × Comes (S.left source.old) (S.left source.new) (K.held sink.old) (K.held sink.new) given result }
     ensures faults { CountsFaults (S.faults source.old) (S.faults source.new) (K.faults sink.old) (K.faults sink.new) result }
 {
-    let mut reading = Reading {
-        phase: Phase::Before,
-        octets: Octets::new(alloc),
-    };
+    let mut reading = Reading::new(alloc);
     let end = read_all(alloc, source, &mut reading);
     if wants_memory(end) {
         return Outcome::Memory;

@@ -5,17 +5,25 @@
 #![tactic(auto)]
 
 mod address;
-mod body;
 mod call;
+mod data;
+mod decimal;
 mod direct;
-mod line;
-mod plan;
+mod domains;
+mod dotted;
+mod name;
+mod octet_text;
+mod planned;
+mod printed;
 mod put;
 mod reading;
+mod record;
+mod records;
 mod report;
-mod shape;
-mod stream;
-mod template;
+mod room;
+mod session;
+mod templates;
+mod value;
 mod words;
 
 pub use call::collect_main;

@@ -4,11 +4,11 @@ ghost use Rattle.run_spec.specs.Decode.{DecodedSet};
 ghost use Rattle.run_spec.specs.Result.{sets_text};
 ghost use Rattle.site_io.specs.Outside.{Counts};
 ghost use Rattle.text_spec.specs.Builtin.{builtin_rows};
-ghost use Rattle.collector_top.specs.Plan.{ArePlanned, AreAllPlanned};
+ghost use Rattle.collector_top.specs.Session.{ArePlanned, AreAllPlanned};
 ghost use Rattle.collector_top.specs.Put.{PutsText};
 
-use crate::body::put_body;
-use crate::plan::{PlannedMessage, PlannedSet};
+use crate::planned::{PlannedMessage, PlannedSet};
+use crate::records::put_records;
 use col_base::Octets;
 use site_io::{OutsideFault, Sink};
 use std::alloc::{AllocError, Global};
@@ -18,7 +18,7 @@ fn put_sets(sets: &[PlannedSet<'_>], out: &mut Octets) -> Result<(), AllocError>
     ensures { OnOk result ((decoded : List DecodedSet) → ArePlanned sets.now decoded → out.new ≡ out.old ++ sets_text true builtin_rows decoded) }
 {
     for set in sets {
-        put_body(&set.shape.fields, set.shape.size, set.body, out)?;
+        put_records(&set.definition, set.body, out)?;
     }
     Ok(())
 }

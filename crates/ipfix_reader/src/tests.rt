@@ -78,6 +78,25 @@ fn fault_of(alloc: Global, text: &str) -> Result<Option<Malformed>, AllocError> 
     }
 }
 
+/// How many definitions and how many withdrawals stand in a message, or its first fault.
+fn counts_of(octets: &[u8]) -> Result<(u32, u32), Malformed> {
+    let message = check(octets)?;
+    let mut definitions: u32 = 0;
+    let mut withdrawals: u32 = 0;
+    for set in message.sets() {
+        if set.id == 2 || set.id == 3 {
+            for template in template_records(set) {
+                if template.count == 0 {
+                    withdrawals = withdrawals.saturating_add(1);
+                } else {
+                    definitions = definitions.saturating_add(1);
+                }
+            }
+        }
+    }
+    Ok((definitions, withdrawals))
+}
+
 fn broken(kind: MalformedKind, at: u32) -> Option<Malformed> {
     Some(Malformed { kind, at })
 }
@@ -463,7 +482,53 @@ fn the_longest_message_is_checked(rt: HostRuntime) -> Result<(), AllocError> {
     }
     octets.extend_from_slice(&[0, 0, 0])?;
     assert_eq!(rt; octets.len(), 65535);
-    assert!(rt; check(&octets).is_ok());
+    assert_eq!(rt; counts_of(&octets), Ok((0, 16378)));
+    Ok(())
+}
+
+#[test]
+fn a_flow_that_is_cut_or_turned_is_malformed(rt: HostRuntime) -> Result<(), AllocError> {
+    let mut flow = octets_of(
+        rt.alloc(),
+        "000a0034 00000064 00000000 00000001 00020014 01000003 00080004 000c0004 00010004 01000010 0a000001 0a000002 000003e8",
+    )?;
+    assert_eq!(rt; counts_of(&flow), Ok((1, 0)));
+    let cuts = [(15, broken(Short, 0)), (51, broken(Length, 2))];
+    for (size, fault) in cuts {
+        let front: Vec<u8> = flow.iter().take(size).copied().collect(rt.alloc())?;
+        assert_eq!(rt; counts_of(&front).err(), fault);
+    }
+    if let Some(octet) = flow.get_mut(1) {
+        *octet = 9;
+    }
+    assert_eq!(rt; counts_of(&flow).err(), broken(Version, 0));
+    Ok(())
+}
+
+#[test]
+fn template_records_are_told_from_padding(rt: HostRuntime) -> Result<(), AllocError> {
+    let rows = [
+        ("000a0010 00000064 00000000 00000001", (0, 0)),
+        (
+            "000a0018 00000064 00000000 00000001 00030008 00030000",
+            (0, 1),
+        ),
+        (
+            "000a001f 00000064 00000000 00000001 0002000f 01000001 00080004 ffffff",
+            (1, 0),
+        ),
+        (
+            "000a0020 00000064 00000000 00000001 00020010 01000001 00080004 00000000",
+            (1, 0),
+        ),
+    ];
+    for (text, counts) in rows {
+        assert_eq!(rt;
+            counts_of(&octets_of(rt.alloc(), text)?),
+            Ok(counts),
+            "{text}"
+        );
+    }
     Ok(())
 }
 

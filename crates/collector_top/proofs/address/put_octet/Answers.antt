@@ -1,5 +1,5 @@
 use Rattle.std.proofs.Common.{◌+◌, ◌++◌, [], ◌∷◌, take, ap, ◌∙◌, arith, append_assoc}
-use Rattle.collector_top.specs.Plain.{octet_digits}
+use Rattle.collector_top.specs.Pieces.{octet_digits}
 use Rattle.collector_top.proofs.DottedLemmas.{row_cut}
 use Rattle.collector_top.proofs.address.put_octet.Goals as goal
 

@@ -4,7 +4,7 @@ use Rattle.run_spec.specs.Decode.{DecodedSet}
 use Rattle.run_spec.specs.Result.{sets_text}
 use Rattle.site_io.specs.Writes.{Grows}
 use Rattle.text_spec.specs.Builtin.{builtin_rows}
-use Rattle.collector_top.specs.Plan.{AreAllPlanned}
+use Rattle.collector_top.specs.Session.{AreAllPlanned}
 use Rattle.collector_top.proofs.put.put_messages.Given as goal
 
 abbrev pub invariant-loop-message : goal.invariant-loop-message

@@ -2,7 +2,7 @@ use Rattle.std.proofs.Common.{◌≡◌, ◌++◌, List, true, drop}
 use Rattle.run_spec.specs.Decode.{DecodedSet}
 use Rattle.run_spec.specs.Result.{sets_text}
 use Rattle.text_spec.specs.Builtin.{builtin_rows}
-use Rattle.collector_top.specs.Plan.{ArePlanned}
+use Rattle.collector_top.specs.Session.{ArePlanned}
 use Rattle.collector_top.proofs.put.put_sets.Given as goal
 
 abbrev pub invariant-loop-set : goal.invariant-loop-set

@@ -1,0 +1,5 @@
+use Rattle.collector_top.specs.Session.{PlansSoFar}
+use Rattle.collector_top.proofs.session.take_sets.Given as goal
+
+abbrev pub invariant-loop-set : goal.invariant-loop-set
+invariant-loop-set l = PlansSoFar l.fn.message.octets.now l.set-iterator.rest.now l.fn.domain l.initial.domains l.domains l.plan
