@@ -1,3 +1,6 @@
 pub mod KnownConfs
 pub mod KnownTexts
 pub mod KnownFaults
+pub mod FirstLemmas
+pub mod NumberLemmas
+pub mod ConfLemmas

@@ -1,0 +1,9 @@
+-- What a description is like that has no fault.
+use Rattle.std.specs.Prelude.{◌≡◌, ℕ, List, Ok}
+use Rattle.config_spec.specs.declared.conf.Conf.{Conf}
+use Rattle.config_spec.specs.Form.{IsConf}
+use Rattle.config_spec.specs.Description.{description}
+
+-- its values have their ranges, lengths and forms
+abbrev pub KeepForm : Type 0
+KeepForm = (octets : List ℕ) (conf : Conf) → description octets ≡ Ok conf → IsConf conf
