@@ -1,5 +1,5 @@
 -- Where there is no first fault there is none.
-use Rattle.std.proofs.Common.{◌≡◌, ℕ, zero, suc, Bool, true, false, IsTrue, List, [], ◌∷◌, Option, Some, None, Result, Ok, Err, slice_get, ◌++◌, ◌+◌, add-one, refl, subst, if◌then◌else◌}
+use Rattle.std.proofs.Common.{◌≡◌, ℕ, zero, suc, Bool, true, false, List, [], ◌∷◌, Option, Some, None, Result, Ok, Err, slice_get, ◌++◌, ◌+◌, refl, subst, if◌then◌else◌}
 use Rattle.std.specs.Option.{option_or, unwrap_or, ok_or}
 use Rattle.std.specs.Prelude.{option_and_then}
 use Rattle.std.specs.List.{AllByRecursion}
@@ -10,14 +10,13 @@ use Rattle.config_spec.specs.declared.key.Key.{Key}
 use Rattle.config_spec.specs.declared.key.TableKind.{TableKind}
 use Rattle.config_spec.specs.declared.key.TableKind.TheVariants as T
 use Rattle.config_spec.specs.declared.key.TableSort.{TableSort}
-use Rattle.config_spec.specs.declared.key.Choice.{Choice}
-use Rattle.config_spec.specs.declared.key.Choice.TheVariants.{By, Always}
+use Rattle.config_spec.specs.declared.key.Choice.TheVariants.{By}
 use Rattle.config_spec.specs.declared.key_row.KeyRow.{KeyRow}
 use Rattle.config_spec.specs.declared.fault.ConfFault.{ConfFault}
 use Rattle.config_spec.specs.Keys.{word_of, kind_word, choice_of, kinds_of, rows_of}
 use Rattle.config_spec.specs.Fits.{value_at, text_at, within}
-use Rattle.config_spec.specs.Faults.{Path, Check, verdict_fault, key_fault, keys_fault, unknown_fault, kind_named, strange, word_kind, value_kind, chosen_kind, kind_of, kind_fault, table_fault, below, item_fault, items_fault, items_at, array_fault}
-use Rattle.config_spec.specs.Values.{put_table, each_table, tables_at, chosen, kind_at}
+use Rattle.config_spec.specs.Faults.{Path, Check, verdict_fault, key_fault, keys_fault, unknown_fault, kind_named, strange, word_kind, value_kind, kind_of, kind_fault, table_fault, below, item_fault, items_fault, items_at, array_fault}
+use Rattle.config_spec.specs.Values.{put_table, each_table, tables_at, kind_at}
 
 pub first_of_two : (o p : Option ConfFault) → option_or o p ≡ None → (o ≡ None) × (p ≡ None)
 first_of_two None p e = (refl, e)
@@ -49,6 +48,11 @@ each_kept P value check keeps path key place (item ∷ items) e =
     put None e more = more
     put (Some entries) e more = (keeps (below path key place) entries e, more)
 
+pub tables_kept : {X : Type 0} (P : X → Type 0) (value : Members → X) (check : Check) → ((path : Path) (entries : Members) → check path entries ≡ None → P (value entries))
+    → (path : Path) (key : Key) (entries : Members) → array_fault check path key entries ≡ None → AllByRecursion P (tables_at value key entries)
+unfolding array_fault tables_at
+tables_kept P value check keeps path key entries e = each_kept P value check keeps path key 0 (items_at key entries) e
+
 -- what holds of all kinds holds of the one that a word names
 found_holds : (P : TableKind → Type 0) (kinds : List TableKind) (word : List ℕ) (kind : TableKind) → AllByRecursion P kinds → kind_named kinds word ≡ Some kind → P kind
 found_holds P [] word kind all e = absurd (cc)
@@ -67,9 +71,11 @@ kind_same P sort path entries kind key by all e = rw by (at (value_at key entrie
     named : (word : List ℕ) (o : Option TableKind) → kind_named (kinds_of sort) word ≡ o → ok_or o (strange sort (path ++ word_of key)) ≡ Ok kind → (unwrap_or o T.Top ≡ kind) × P kind
     named word None is e = absurd (cc)
     named word (Some k) is e = let same : k ≡ kind = cc in (same, found_holds P (kinds_of sort) word kind all (rw (← same) is))
+
     text : (o : Option (List ℕ)) → word_kind sort (path ++ word_of key) o ≡ Ok kind → (unwrap_or (kind_named (kinds_of sort) (unwrap_or o [])) T.Top ≡ kind) × P kind
     text None e = absurd (cc)
     text (Some word) e = named word (kind_named (kinds_of sort) word) refl e
+
     at : (found : Option Data) → value_kind sort (path ++ word_of key) found ≡ Ok kind
         → (unwrap_or (kind_named (kinds_of sort) (unwrap_or (option_and_then as_str found) [])) T.Top ≡ kind) × P kind
     at None e = absurd (cc)

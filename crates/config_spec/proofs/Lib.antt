@@ -3,4 +3,5 @@ pub mod KnownTexts
 pub mod KnownFaults
 pub mod FirstLemmas
 pub mod NumberLemmas
+pub mod PrefixLemmas
 pub mod ConfLemmas

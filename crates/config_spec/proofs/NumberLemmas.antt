@@ -1,18 +1,18 @@
 -- Numbers, names and the lengths of arrays where nothing is at fault.
-use Rattle.std.proofs.Common.{◌≡◌, ◌≤◌, ℕ, ℤ, pos, negsuc, Bool, true, false, ◌&&◌, not, nat_le, IsTrue, List, [], ◌∷◌, ◌++◌, length, Option, Some, None, refl, ap, suc, arith, if◌then◌else◌}
+use Rattle.std.proofs.Common.{◌≡◌, ◌≤◌, ℕ, ℤ, pos, negsuc, Bool, true, false, ◌&&◌, nat_le, List, [], ◌∷◌, ◌++◌, length, Option, Some, None, refl, ap, suc, arith, if◌then◌else◌}
 use Rattle.std.specs.Prelude.{option_and_then, is_some}
 use Rattle.std.specs.Option.{unwrap_or}
 use Rattle.std.specs.List.{list_all}
 use Rattle.std.proofs.lemmas.Bool.{and_parts, leb-true}
+use Rattle.std.proofs.lemmas.Bool.Decides.{nat_tests}
 use Rattle.toml.specs.Data.{Data, Members, Items, as_str, as_array, as_table, as_integer}
 use Rattle.config_spec.specs.declared.key.Key.{Key}
-use Rattle.config_spec.specs.declared.key_row.KeyRow.{KeyRow}
 use Rattle.config_spec.specs.declared.key_row.Shape.{Shape}
 use Rattle.config_spec.specs.declared.key_row.Shape.TheVariants as S
 use Rattle.config_spec.specs.declared.key_row.Verdict.TheVariants.{WrongType}
 use Rattle.config_spec.specs.Keys.{word_of, required, optional, number}
-use Rattle.config_spec.specs.Fits.{value_at, text_at, within, is_name, text_test, text_fits, items_list, is_table, is_text, is_place_item, tables_fit, places_fit, array_fits, fits}
-use Rattle.config_spec.specs.Faults.{Path, verdict_fault, value_fault, key_fault, items_or_none, items_at}
+use Rattle.config_spec.specs.Fits.{value_at, text_found, text_at, within, number_fits, is_name, text_test, text_fits, items_list, is_table, is_text, is_place_item, tables_fit, places_fit, array_fits, fits}
+use Rattle.config_spec.specs.Faults.{Path, verdict_fault, value_fault, key_fault, items_or_none}
 use Rattle.config_spec.specs.Values.{number_within, integer_at, number_of, put_table, each_table, tables_at, put_text, each_text, texts_at}
 use Rattle.config_spec.specs.Form.{IsWithin}
 use Rattle.config_spec.proofs.FirstLemmas.{right_if}
@@ -34,16 +34,57 @@ pub required_ranged : (key : Key) (high : ℕ) (entries : Members) → number_of
 unfolding number_of
 required_ranged key high entries = (within_range 0 high 0 (integer_at key entries) (omega arith) (omega arith)).1
 
-pub name_kept : (path : Path) (entries : Members) (key : Key) → key_fault path entries (required key S.Name) ≡ None → is_name (text_at key entries) ≡ true
-unfolding key_fault fits text_test text_at
-name_kept path entries key e = at (value_at key entries) e
+-- a text that has to be there is right
+pub text_right : (path : Path) (entries : Members) (key : Key) (shape : Shape) → ((value : Data) → fits shape entries value ≡ text_fits (text_test shape entries) (as_str value))
+    → key_fault path entries (required key shape) ≡ None → text_test shape entries (text_at key entries) ≡ true
+unfolding key_fault text_at
+text_right path entries key shape texts e = at (value_at key entries) e
   where
-    text : (o : Option (List ℕ)) → verdict_fault (path ++ word_of key) (text_fits (text_test S.Name entries) o) ≡ None → is_name (unwrap_or o []) ≡ true
+    text : (o : Option (List ℕ)) → verdict_fault (path ++ word_of key) (text_fits (text_test shape entries) o) ≡ None → text_test shape entries (unwrap_or o []) ≡ true
     text None e = absurd (cc)
-    text (Some s) e = right_if (path ++ word_of key) (is_name s) e
-    at : (found : Option Data) → value_fault path entries (required key S.Name) found ≡ None → is_name (unwrap_or (option_and_then as_str found) []) ≡ true
+    text (Some s) e = right_if (path ++ word_of key) (text_test shape entries s) e
+
+    at : (found : Option Data) → value_fault path entries (required key shape) found ≡ None → text_test shape entries (unwrap_or (option_and_then as_str found) []) ≡ true
     at None e = absurd (cc)
-    at (Some value) e = text (as_str value) e
+    at (Some value) e = text (as_str value) (rw (texts value) at e)
+
+-- a text that may be there is right
+pub found_right : (path : Path) (entries : Members) (key : Key) (shape : Shape) (text : List ℕ) → ((value : Data) → fits shape entries value ≡ text_fits (text_test shape entries) (as_str value))
+    → key_fault path entries (optional key shape) ≡ None → text_found key entries ≡ Some text → text_test shape entries text ≡ true
+unfolding key_fault
+found_right path entries key shape text texts e there = at (value_at key entries) e there
+  where
+    str : (o : Option (List ℕ)) → verdict_fault (path ++ word_of key) (text_fits (text_test shape entries) o) ≡ None → o ≡ Some text → text_test shape entries text ≡ true
+    str None e there = absurd (cc)
+    str (Some s) e there = let same : s ≡ text = cc in rw (← same) (right_if (path ++ word_of key) (text_test shape entries s) e)
+
+    at : (found : Option Data) → value_fault path entries (optional key shape) found ≡ None → option_and_then as_str found ≡ Some text → text_test shape entries text ≡ true
+    at None e there = absurd (cc)
+    at (Some value) e there = str (as_str value) (rw (texts value) at e) there
+
+pub name_kept : (path : Path) (entries : Members) (key : Key) → key_fault path entries (required key S.Name) ≡ None → is_name (text_at key entries) ≡ true
+unfolding fits text_test
+name_kept path entries key e = text_right path entries key S.Name (λ value. refl) e
+
+-- a number that has to be there is in its range
+number_right : (at : Path) (least high : ℕ) (o : Option ℤ) → verdict_fault at (number_fits least high o) ≡ None → (n : ℕ) × (o ≡ Some (pos n)) × (least ≤ n) × (n ≤ high)
+number_right at least high None e = absurd (cc)
+number_right at least high (Some (negsuc n)) e = absurd (cc)
+number_right at least high (Some (pos n)) e =
+    let parts = and_parts (nat_le least n) (nat_le n high) (right_if at (nat_le least n && nat_le n high) e) in
+    (n, refl, leb-true least n parts.0, leb-true n high parts.1)
+
+pub required_number : (path : Path) (entries : Members) (key : Key) (shape : Shape) (least high : ℕ) → ((value : Data) → fits shape entries value ≡ number_fits least high (as_integer value))
+    → key_fault path entries (required key shape) ≡ None → (n : ℕ) × (integer_at key entries ≡ Some (pos n)) × (least ≤ n) × (n ≤ high)
+unfolding key_fault
+required_number path entries key shape least high numbers e = at (value_at key entries) e
+  where
+    at : (found : Option Data) → value_fault path entries (required key shape) found ≡ None → (n : ℕ) × (option_and_then as_integer found ≡ Some (pos n)) × (least ≤ n) × (n ≤ high)
+    at None e = absurd (cc)
+    at (Some value) e = number_right (path ++ word_of key) least high (as_integer value) (rw (numbers value) at e)
+
+pub within_same : (low high default n : ℕ) → low ≤ n → n ≤ high → number_within low high default (Some (pos n)) ≡ n
+within_same low high default n a b = grind (arith, nat_tests)
 
 -- as many tables as items, or fewer
 few_tables : {X : Type 0} (value : Members → X) (items : List Data) → length (each_table value items) ≤ length items
@@ -116,9 +157,11 @@ places_counted path entries key most e = at (value_at key entries) e
         let few = few_texts (items_list items) in
         let many = leb-true (length (items_list items)) most parts.0 in
         omega arith
+
     array : (o : Option Items) → verdict_fault (path ++ word_of key) (array_fits (places_fit most) o) ≡ None → length (each_text (items_or_none o)) ≤ most
     array None e = absurd (cc)
     array (Some items) e = fit items (list_all is_text (items_list items)) e
+
     at : (found : Option Data) → value_fault path entries (optional key (S.Places most)) found ≡ None → length (each_text (items_or_none (option_and_then as_array found))) ≤ most
     at None e = omega arith
     at (Some found) e = array (as_array found) e

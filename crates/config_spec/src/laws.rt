@@ -1,7 +1,6 @@
 // What a description is like that has no fault. The functions do nothing: each contract states a law.
 ghost use Rattle.config_spec.specs.Laws.{KeepForm};
 
-#[tactic(auto, using(crate::proofs::ConfLemmas::keep_form))]
 pub fn descriptions_keep_their_form()
     ensures { KeepForm }
 {}
