@@ -5,3 +5,4 @@ pub mod FirstLemmas
 pub mod NumberLemmas
 pub mod PrefixLemmas
 pub mod ConfLemmas
+pub mod PartLemmas

@@ -12,7 +12,7 @@ use Rattle.config_spec.specs.declared.key_row.Shape.TheVariants as S
 use Rattle.config_spec.specs.declared.key_row.Verdict.TheVariants.{WrongType}
 use Rattle.config_spec.specs.Keys.{word_of, required, optional, number}
 use Rattle.config_spec.specs.Fits.{value_at, text_found, text_at, within, number_fits, is_name, text_test, text_fits, items_list, is_table, is_text, is_place_item, tables_fit, places_fit, array_fits, fits}
-use Rattle.config_spec.specs.Faults.{Path, verdict_fault, value_fault, key_fault, items_or_none}
+use Rattle.config_spec.specs.Faults.{Path, verdict_fault, value_fault, key_fault, items_or_none, items_at}
 use Rattle.config_spec.specs.Values.{number_within, integer_at, number_of, put_table, each_table, tables_at, put_text, each_text, texts_at}
 use Rattle.config_spec.specs.Form.{IsWithin}
 use Rattle.config_spec.proofs.FirstLemmas.{right_if}
@@ -95,7 +95,7 @@ few_tables value (item ∷ items) = put (as_table item) (few_tables value items)
     put None few = omega arith
     put (Some entries) few = omega arith
 
-all_tables : {X : Type 0} (value : Members → X) (items : List Data) → list_all is_table items ≡ true → length (each_table value items) ≡ length items
+pub all_tables : {X : Type 0} (value : Members → X) (items : List Data) → list_all is_table items ≡ true → length (each_table value items) ≡ length items
 all_tables value [] e = refl
 all_tables value (item ∷ items) e =
     let parts = and_parts (is_table item) (list_all is_table items) e in
@@ -118,6 +118,24 @@ array_counted value at least most (Some items) e = fit (list_all is_table (items
     fit true is e =
         let parts = and_parts (nat_le least (length (items_list items))) (nat_le (length (items_list items)) most) (right_if at _ e) in
         rw (all_tables value (items_list items) is) (leb-true least (length (items_list items)) parts.0, leb-true (length (items_list items)) most parts.1)
+
+tables_alone : (at : Path) (least most : ℕ) (o : Option Items) → verdict_fault at (array_fits (tables_fit least most) o) ≡ None → list_all is_table (items_or_none o) ≡ true
+tables_alone at least most None e = absurd (cc)
+tables_alone at least most (Some items) e = fit (list_all is_table (items_list items)) e
+  where
+    fit : (t : Bool) → verdict_fault at (if t then within (nat_le least (length (items_list items)) && nat_le (length (items_list items)) most) else WrongType) ≡ None → t ≡ true
+    fit false e = absurd (cc)
+    fit true e = refl
+
+-- an array that is right has tables alone
+pub optional_tables : (path : Path) (entries : Members) (key : Key) (most : ℕ) → key_fault path entries (optional key (S.Tables 0 most)) ≡ None
+    → list_all is_table (items_at key entries) ≡ true
+unfolding key_fault fits
+optional_tables path entries key most e = at (value_at key entries) e
+  where
+    at : (found : Option Data) → value_fault path entries (optional key (S.Tables 0 most)) found ≡ None → list_all is_table (items_or_none (option_and_then as_array found)) ≡ true
+    at None e = refl
+    at (Some found) e = tables_alone (path ++ word_of key) 0 most (as_array found) e
 
 pub optional_counted : {X : Type 0} (value : Members → X) (path : Path) (entries : Members) (key : Key) (most : ℕ) → key_fault path entries (optional key (S.Tables 0 most)) ≡ None
     → length (tables_at value key entries) ≤ most

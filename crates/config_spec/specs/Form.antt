@@ -1,6 +1,6 @@
 -- What every description keeps: the ranges, the lengths and the forms of its values, but for the lengths of
 -- paths and addresses.
-use Rattle.std.specs.Prelude.{◌≡◌, ◌≤◌, ◌*◌, ◌⊎◌, ℕ, List, length, true}
+use Rattle.std.specs.Prelude.{◌≡◌, ◌≤◌, ◌*◌, ◌⊎◌, ℕ, List, length, true, is_some, ◌↔◌}
 use Rattle.std.specs.List.{AllByRecursion}
 use Rattle.col_base.specs.declared.base.Lifetimes.{Lifetimes}
 use Rattle.config_spec.specs.declared.domains.DomainRange.{DomainRange}
@@ -119,3 +119,9 @@ pub record IsConf (conf : Conf) : Type 0 where
   pub stages : AllByRecursion IsStage conf.stages
   pub few_outputs : length conf.outputs ≤ 32
   pub outputs : AllByRecursion IsOutput conf.outputs
+
+-- what every description has: an input, an output, and an order log exactly where there are two or more inputs
+pub record HasParts (conf : Conf) : Type 0 where
+  pub inputs : 1 ≤ length conf.inputs
+  pub outputs : 1 ≤ length conf.outputs
+  pub log : (is_some conf.order_log ≡ true) ↔ (2 ≤ length conf.inputs)

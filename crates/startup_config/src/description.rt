@@ -2,7 +2,7 @@
 ghost use Rattle.std.specs.Prelude.{◌≡◌, Some, None, Ok, Err, OnOk, IfOk, IfErr};
 ghost use Rattle.toml.specs.View.{table_view};
 ghost use Rattle.config_spec.specs.First.{IsMemory, first_fault};
-ghost use Rattle.config_spec.specs.Form.{IsConf};
+ghost use Rattle.config_spec.specs.Form.{IsConf, HasParts};
 ghost use Rattle.config_spec.specs.Description.{no_input, no_output, no_order_log, whole_faults, tree_of, tree_conf, description};
 
 use crate::made::conf_of;
@@ -107,6 +107,7 @@ fn described(alloc: Global, octets: &[u8]) -> Result<Conf, ConfFault>
 pub fn read(alloc: Global, octets: &[u8]) -> Result<Conf, ConfFault>
     ensures ok { IfOk result (λ conf. description octets.now ≡ Ok conf) }
     ensures form { IfOk result (λ conf. IsConf conf) }
+    ensures parts { IfOk result (λ conf. HasParts conf) }
     ensures err { IfErr result (λ fault. ¬ (IsMemory fault) → description octets.now ≡ Err fault) }
 {
     described(alloc, octets)
