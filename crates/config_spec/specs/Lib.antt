@@ -9,3 +9,5 @@ pub mod Repeats
 pub mod Description
 pub mod Examples
 pub mod Faulty
+pub mod Form
+pub mod Laws

@@ -9,6 +9,7 @@ pub mod examples;
 mod fault;
 mod key;
 mod key_row;
+pub mod laws;
 mod listed;
 mod marked;
 mod tables;

@@ -5,5 +5,4 @@ pub mod NumberLemmas
 pub mod CutLemmas
 pub mod UnknownLemmas
 pub mod TextLemmas
-pub mod MaskLemmas
 pub mod RepeatLemmas

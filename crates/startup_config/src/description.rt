@@ -2,6 +2,7 @@
 ghost use Rattle.std.specs.Prelude.{◌≡◌, Some, None, Ok, Err, OnOk, IfOk, IfErr};
 ghost use Rattle.toml.specs.View.{table_view};
 ghost use Rattle.config_spec.specs.First.{IsMemory, first_fault};
+ghost use Rattle.config_spec.specs.Form.{IsConf, HasParts};
 ghost use Rattle.config_spec.specs.Description.{no_input, no_output, no_order_log, whole_faults, tree_of, tree_conf, description};
 
 use crate::made::conf_of;
@@ -93,12 +94,21 @@ fn tree_conf(alloc: Global, table: &Table) -> Result<Conf, ConfFault>
     Ok(conf)
 }
 
-/// The description that the octets stand for, or its first fault. Memory may be wanted at any place.
 #[tactic(auto, unfolding(config_spec::specs::Description::description))]
-pub fn read(alloc: Global, octets: &[u8]) -> Result<Conf, ConfFault>
+fn described(alloc: Global, octets: &[u8]) -> Result<Conf, ConfFault>
     ensures ok { IfOk result (λ conf. description octets.now ≡ Ok conf) }
     ensures err { IfErr result (λ fault. ¬ (IsMemory fault) → description octets.now ≡ Err fault) }
 {
     let tree = tree_of(alloc, octets)?;
     tree_conf(alloc, &tree)
+}
+
+/// The description that the octets stand for, or its first fault. Memory may be wanted at any place.
+pub fn read(alloc: Global, octets: &[u8]) -> Result<Conf, ConfFault>
+    ensures ok { IfOk result (λ conf. description octets.now ≡ Ok conf) }
+    ensures form { IfOk result (λ conf. IsConf conf) }
+    ensures parts { IfOk result (λ conf. HasParts conf) }
+    ensures err { IfErr result (λ fault. ¬ (IsMemory fault) → description octets.now ≡ Err fault) }
+{
+    described(alloc, octets)
 }

@@ -84,7 +84,7 @@ fn is_prefix(text: &str) -> bool
 }
 
 /// Whether it is an address of the same kind as the prefix.
-#[tactic(auto, using(crate::proofs::MaskLemmas::masked_length))]
+#[tactic(auto, using(config_spec::proofs::PrefixLemmas::masked_length))]
 fn is_like(from: &str, to: &str) -> bool
     ensures { result ≡ is_like from.now to.now }
 {
