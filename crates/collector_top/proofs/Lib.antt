@@ -19,3 +19,4 @@ pub mod ReportLemmas
 pub mod DottedLemmas
 pub mod TemplateTableLemmas
 pub mod SessionTemplatesLemmas
+pub mod SaysLemmas
