@@ -122,10 +122,14 @@ none_more : (before : List (ℕ × Touch)) (b : Bool) → before ++ cond b [] []
 none_more before true = append-nil before
 none_more before false = append-nil before
 
+-- A domain that is admitted is kept.
+pub admitted_here : {old new : Domains} {domain : ℕ} {admitted : Bool} → Admits old domain admitted new → admitted ≡ true → is_kept new domain ≡ true
+admitted_here {old} {new} {domain} {admitted} a e = a.kept domain ∙ (cond-true (domain == domain) admitted (is_kept old domain) (eq-eqb domain domain refl) ∙ e)
+
 -- Where the domain of a message is admitted, the domains stand for what came before it.
 pub stand_admitted : {old new : Domains} {past : List Message} {domain : ℕ} {admitted : Bool} (time : ℕ) → StandFor old past → Admits old domain admitted new → admitted ≡ true → StandAmid new past time domain []
 stand_admitted {old} {new} {past} {domain} {admitted} time s a e = record {
-  here = a.kept domain ∙ (cond-true (domain == domain) admitted (is_kept old domain) (eq-eqb domain domain refl) ∙ e);
+  here = admitted_here a e;
   kept = keep_more s.kept a;
   templates = λ life d id. a.templates d id ∙ (s.templates life d id ∙ sym (ap (λ t. last_touched t id) (none_more (touches_before File life past d) (domain == d))));
 }

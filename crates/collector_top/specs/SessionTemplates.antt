@@ -1,7 +1,7 @@
 -- The domains of a file's session that are kept, each with its templates (RFC 7011, sections 3.1 and 8.1), and which
 -- messages they stand for: each template record of a domain counts for what follows it.
-use Rattle.std.specs.Prelude.{ℕ, ◌≡◌, ◌+◌, ◌==◌, ◌||◌, if◌then◌else◌, nat_lt, nat_le, Bool, true, List, [], Option, Some, None, ◌++◌, length, is_some, fold, flat_map}
-use Rattle.std.specs.BTreeMap.{get, btree_map_len}
+use Rattle.std.specs.Prelude.{ℕ, ◌≡◌, ◌+◌, ◌<◌, ◌==◌, ◌||◌, if◌then◌else◌, nat_lt, nat_le, Bool, true, false, List, [], Option, Some, None, ◌++◌, length, is_some, fold, flat_map}
+use Rattle.std.specs.BTreeMap.{get, btree_map_len, IsUnchanged}
 use Rattle.std.specs.Ordering.{nat_cmp}
 use Rattle.col_base.specs.declared.base.Lifetimes.{Lifetimes}
 use Rattle.col_base.specs.declared.base.Transport.TheVariants.{File}
@@ -35,6 +35,12 @@ pub record Admits (old : Domains) (domain : ℕ) (admitted : Bool) (new : Domain
   pub kept : (d : ℕ) → is_kept new d ≡ (if domain == d then admitted else is_kept old d)
   pub count : count_kept new ≡ (if is_kept old domain || nat_le 1024 (count_kept old) then count_kept old else count_kept old + 1)
   pub templates : (d id : ℕ) → templates_of new d id ≡ templates_of old d id
+
+-- Memory is wanted only for a domain that isn't kept, where there is room for it, and nothing changes.
+pub record WantsRoom (old : Domains) (domain : ℕ) (new : Domains) : Type 0 where
+  pub unknown : is_kept old domain ≡ false
+  pub room : count_kept old < 1024
+  pub same : IsUnchanged old.rows new.rows
 
 -- The same domains are kept, and these touches were of one.
 pub record AreTouched (old : Domains) (domain : ℕ) (touches : List Touch) (new : Domains) : Type 0 where

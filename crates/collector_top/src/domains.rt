@@ -1,11 +1,10 @@
 // The observation domains of one session, each with its templates.
 ghost use Rattle.std.specs.Prelude.{◌≡◌, ◌⊎◌, ℕ, true, List, None, Some, [], OnOk, OnErr, IfOk, IfSome, MatchOption};
-ghost use Rattle.std.specs.BTreeMap.{IsUnchanged};
 ghost use Rattle.wire_spec.specs.Content.{Touch};
 ghost use Rattle.wire_spec.specs.Content.Part.{Touches};
 ghost use Rattle.wire_spec.specs.WellFormed.{IsWellFormed};
 ghost use Rattle.ipfix_reader.specs.Walk.{RawSays};
-ghost use Rattle.collector_top.specs.SessionTemplates.{is_kept, count_kept, templates_of, Admits, AreTouched, StandFor};
+ghost use Rattle.collector_top.specs.SessionTemplates.{is_kept, count_kept, templates_of, Admits, WantsRoom, AreTouched, StandFor};
 
 use crate::templates::Templates;
 use col_base::WantOfMemory;
@@ -37,7 +36,7 @@ impl Domains {
     /// Keeps a domain, if it is new and there is room. False exactly where it is crowded out.
     pub fn admit(&mut self, alloc: Global, domain: u32) -> Result<bool, WantOfMemory>
         ensures ok { IfOk result (λ admitted. Admits self.old domain admitted self.new) }
-        ensures err { OnErr result (IsUnchanged self.old.rows self.new.rows) }
+        ensures err { OnErr result (WantsRoom self.old domain self.new) }
     {
         if self.rows.contains_key(&domain) {
             return Ok(true);
