@@ -103,25 +103,14 @@ fn templates_hold_over_messages_until_they_are_replaced(rt: HostRuntime) -> Resu
 }
 
 #[test]
-fn other_forms_are_not_built_and_write_nothing(rt: HostRuntime) -> Result<(), Fail> {
+fn other_elements_and_options_are_not_built_and_write_nothing(rt: HostRuntime) -> Result<(), Fail> {
     let alloc = rt.alloc();
     let flow = messages::ONE_FLOW;
-    let torn = [flow, &flow[..10]];
-    let strange: [&[&[u8]]; 14] = [
+    let strange: [&[&[u8]]; 4] = [
         &[messages::VARIABLE_NAMES],
-        &torn,
-        &[messages::PADDED_FLOW],
-        &[messages::EMPTY_TEMPLATE],
-        &[flow, messages::WITHDRAWAL],
-        &[messages::DATA_ALONE],
-        &[messages::REPEATED_ELEMENT],
-        &[messages::OPTIONS],
-        &[messages::SOURCE, messages::OTHER_DOMAIN],
-        &[messages::ENTERPRISE_BIT],
-        &[messages::NO_RECORD],
-        &[&flow[..1]],
-        &[&flow[..51]],
-        &[b"{}"],
+        &[flow, messages::REPEATED_ELEMENT],
+        &[messages::TWICE, flow],
+        &[flow, messages::OPTIONS, flow],
     ];
     for messages in strange {
         run(&rt, alloc, messages, 2, "not built\n", &[])?;
@@ -130,20 +119,170 @@ fn other_forms_are_not_built_and_write_nothing(rt: HostRuntime) -> Result<(), Fa
 }
 
 #[test]
-fn a_count_may_have_one_to_eight_octets(rt: HostRuntime) -> Result<(), Fail> {
+fn every_message_and_set_is_taken(rt: HostRuntime) -> Result<(), Fail> {
     let alloc = rt.alloc();
-    for size in 1..=8u8 {
-        let header = [0, 10, 0, 32 + size, 0, 0, 0, 100, 0, 0, 0, 0, 0, 0, 0, 1];
-        let template = [0, 2, 0, 12, 1, 0, 0, 1, 0, 1, 0, size];
-        let zeros = [0u8; 8];
-        let mut message = Vec::new(alloc);
-        message.extend_from_slice(&header)?;
-        message.extend_from_slice(&template)?;
-        message.extend_from_slice(&[1, 0, 0, 4 + size])?;
-        message.extend_from_slice(&zeros[..size as usize - 1])?;
-        message.push(7)?;
-        let line = "{\"@type\":\"ipfix.entry\",\"iana:octetDeltaCount\":7}\n";
-        run(&rt, alloc, &[&message], 0, "", &[line])?;
+    let flow = messages::ONE_FLOW;
+    let bad_header: &[u8] = &[0x00, 0x09, 0x00, 0x10];
+    let short_length: &[u8] = &[0x00, 0x0a, 0x00, 0x0f];
+    let runs: [(&[&[u8]], &[&str]); 18] = [
+        // what is torn or bad at the end of the stream
+        (&[flow, &flow[..10]], &[FLOW]),
+        (&[&flow[..1]], &[]),
+        (&[&flow[..51]], &[]),
+        (&[flow, flow, bad_header, flow], &[FLOW, FLOW]),
+        (&[flow, short_length, flow], &[FLOW]),
+        (&[b"{}..", flow], &[]),
+        // padding, and sets without records or templates
+        (&[messages::PADDED_FLOW], &[FLOW]),
+        (&[messages::NO_RECORD], &[]),
+        (&[messages::DATA_ALONE, flow], &[FLOW]),
+        (&[messages::RESERVED_SETS], &[FROM]),
+        // malformed messages, and templates that are defined in them
+        (&[messages::EMPTY_TEMPLATE], &[]),
+        (&[messages::MALFORMED_BEHIND, messages::DATA_ALONE], &[]),
+        // templates that end, that are replaced, and that aren't used
+        (
+            &[flow, messages::WITHDRAWAL, messages::DATA_ALONE, flow],
+            &[FLOW, FLOW],
+        ),
+        (
+            &[flow, messages::ALL_WITHDRAWN, messages::DATA_ALONE, flow],
+            &[FLOW, FLOW],
+        ),
+        (
+            &[flow, messages::ALL_OPTIONS_WITHDRAWN, messages::DATA_ALONE],
+            &[FLOW, FLOW],
+        ),
+        (&[messages::ENTERPRISE_BIT], &[FROM]),
+        (&[messages::ENTERPRISE_BEFORE], &[FROM]),
+        // another domain has templates of its own
+        (
+            &[flow, messages::OTHER_DOMAIN, messages::DATA_ALONE],
+            &[FLOW, FROM, FLOW],
+        ),
+    ];
+    for (messages, shown) in runs {
+        run(&rt, alloc, messages, 0, "", shown)?;
+    }
+    Ok(())
+}
+
+/// A message of a domain, with a template of a source address and a record of it.
+fn source_in(alloc: Global, domain: u16) -> Result<Vec<u8>, Fail> {
+    let mut message = messages::SOURCE.to_vec(alloc)?;
+    let octets = domain.to_be_bytes();
+    if message.len() > 15 {
+        message[14] = octets[0];
+        message[15] = octets[1];
+    }
+    Ok(message)
+}
+
+#[test]
+fn a_session_has_1024_domains(rt: HostRuntime) -> Result<(), Fail> {
+    let alloc = rt.alloc();
+    let mut octets = Vec::new(alloc);
+    let mut lines = String::new(alloc);
+    for domain in 1..=1025 {
+        octets.extend_from_slice(&source_in(alloc, domain)?)?;
+        if domain <= 1024 {
+            lines.push_str(FROM)?;
+        }
+    }
+    // the first domain is still known, and the last is crowded out for good
+    for domain in [1, 1025, 1024] {
+        octets.extend_from_slice(&source_in(alloc, domain)?)?;
+        if domain <= 1024 {
+            lines.push_str(FROM)?;
+        }
+    }
+    let mut site = site_of(alloc, source_of(&rt, alloc, &octets)?)?;
+    let words = words_of(alloc, &["direct", "IN", "OUT"])?;
+    assert_eq!(rt; collect_main(alloc, &words, &mut site), 0);
+    assert!(rt; shows(&site, "OUT", lines.as_str()));
+    Ok(())
+}
+
+/// A message with a template of one field, and a set of this body.
+fn one_field(alloc: Global, id: u8, len: u16, body: &[u8]) -> Result<Vec<u8>, Fail> {
+    let mut message = Vec::new(alloc);
+    let size = body.len().min(200) as u8;
+    let field = len.to_be_bytes();
+    message.extend_from_slice(&[0, 10, 0, 32 + size, 0, 0, 0, 100, 0, 0, 0, 0, 0, 0, 0, 1])?;
+    message.extend_from_slice(&[0, 2, 0, 12, 1, 0, 0, 1, 0, id, field[0], field[1]])?;
+    message.extend_from_slice(&[1, 0, 0, 4 + size])?;
+    message.extend_from_slice(body)?;
+    Ok(message)
+}
+
+#[test]
+fn elements_have_their_text_in_any_length(rt: HostRuntime) -> Result<(), Fail> {
+    let alloc = rt.alloc();
+    let count = "{\"@type\":\"ipfix.entry\",\"iana:octetDeltaCount\":";
+    let source = "{\"@type\":\"ipfix.entry\",\"iana:sourceIPv4Address\":";
+    let destination = "{\"@type\":\"ipfix.entry\",\"iana:destinationIPv4Address\":";
+    let fields: [(u8, u16, &[u8], &str, &[&str]); 15] = [
+        (1, 1, &[7], count, &["7"]),
+        (1, 2, &[1, 0], count, &["256"]),
+        (1, 3, &[1, 0, 0], count, &["65536"]),
+        (1, 4, &[255, 255, 255, 255], count, &["4294967295"]),
+        (1, 5, &[1, 0, 0, 0, 0], count, &["4294967296"]),
+        (1, 7, &[0, 0, 0, 0, 0, 0, 9], count, &["9"]),
+        (
+            1,
+            8,
+            &[255, 255, 255, 255, 255, 255, 255, 255],
+            count,
+            &["18446744073709551615"],
+        ),
+        (
+            1,
+            9,
+            &[0, 1, 2, 3, 4, 5, 6, 7, 0xab],
+            count,
+            &["\"0x0001020304050607ab\""],
+        ),
+        (
+            1,
+            65535,
+            &[1, 5, 0, 255, 0, 2, 1, 1],
+            count,
+            &["5", "\"0x\"", "257"],
+        ),
+        (
+            8,
+            4,
+            &[10, 0, 0, 1, 192, 168, 200, 99],
+            source,
+            &["\"10.0.0.1\"", "\"192.168.200.99\""],
+        ),
+        (8, 3, &[10, 0, 255], source, &["\"0x0a00ff\""]),
+        (8, 5, &[10, 0, 0, 1, 2], source, &["\"0x0a00000102\""]),
+        (
+            12,
+            4,
+            &[255, 255, 255, 255],
+            destination,
+            &["\"255.255.255.255\""],
+        ),
+        (
+            12,
+            65535,
+            &[4, 1, 2, 3, 4, 255, 0, 4, 5, 6, 7, 8],
+            destination,
+            &["\"1.2.3.4\"", "\"5.6.7.8\""],
+        ),
+        (12, 65535, &[4, 1, 2, 3, 4, 5, 6], destination, &[]),
+    ];
+    for (id, len, body, start, values) in fields {
+        let message = one_field(alloc, id, len, body)?;
+        let mut text = String::new(alloc);
+        for value in values {
+            text.push_str(start)?;
+            text.push_str(value)?;
+            text.push_str("}\n")?;
+        }
+        run(&rt, alloc, &[&message], 0, "", &[text.as_str()])?;
     }
     Ok(())
 }
