@@ -1,9 +1,6 @@
 -- The digits of an octet are its decimal text.
-use Rattle.std.proofs.Common.{◌≡◌, ℕ, zero, suc, ◌+◌, ◌<◌, ◌≤◌, ◌⊎◌, inl, inr, Bool, true, ◌&&◌, List, [], ◌∷◌, ◌++◌, length, take, get_or, refl, ap, sym, ◌∙◌, arith, append_assoc, append-nil}
-use Rattle.std.specs.Prelude.{decimal, nat_eq, nat_lt, ◌≢◌, ◌*◌}
-use Rattle.std.proofs.Math.Seq.{take-append-add}
-use Rattle.std.proofs.lemmas.List.{take-take, length-take-le}
-use Rattle.collector_top.specs.declared.address.TheConstants.{DIGITS}
+use Rattle.std.proofs.Common.{◌≡◌, ℕ, zero, suc, ◌<◌, ◌≤◌, ◌⊎◌, inl, inr, Bool, true, ◌&&◌, List, [], ◌∷◌, ◌++◌, length, get_or, refl, ap, sym, ◌∙◌, arith, append_assoc, append-nil}
+use Rattle.std.specs.Prelude.{decimal, nat_eq, nat_lt, ◌≢◌}
 use Rattle.std.specs.Fmt.{digits}
 use Rattle.std.specs.List.{join_by}
 use Rattle.std.specs.Str.{bytes_eq}
@@ -74,29 +71,6 @@ address_dotted (a ∷ b ∷ c ∷ []) four fits = absurd (omega arith)
 address_dotted (a ∷ b ∷ c ∷ d ∷ x ∷ value) four fits = absurd (omega arith)
 address_dotted (a ∷ b ∷ c ∷ d ∷ []) four fits = four_parts a b c d (fits 0) (fits 1) (fits 2) (fits 3)
 
--- an octet's row of digits, with what fills it up
-abbrev row : ℕ → List ℕ
-row n = get_or DIGITS (3 * n) 0 ∷ get_or DIGITS (3 * n + 1) 0 ∷ get_or DIGITS (3 * n + 2) 0 ∷ []
-
--- so many numbers have their digits in their rows
-have_rows : ℕ → Bool
-have_rows zero = true
-have_rows (suc n) = bytes_eq (take (length (octet_digits n)) (row n)) (octet_digits n) && have_rows n
-
-octets_have_rows : have_rows 256 ≡ true
-unfolding have_rows
-octets_have_rows = refl
-
-each_has_row : (k n : ℕ) → have_rows k ≡ true → n < k → take (length (octet_digits n)) (row n) ≡ octet_digits n
-unfolding have_rows
-each_has_row zero n all lt = absurd (omega arith)
-each_has_row (suc k) n all lt =
-    let parts = and_parts _ _ all in
-    elim (below_or_last n k lt) [
-      | inl e ↦ (bytes_eq-Decides (take (length (octet_digits n)) (row n)) (octet_digits n)).0 (ap (λ m. bytes_eq (take (length (octet_digits m)) (row m)) (octet_digits m)) e ∙ parts.0)
-      | inr l ↦ each_has_row k n parts.1 l
-    ]
-
 pub at_most_three : (n : ℕ) → length (octet_digits n) ≤ 3
 at_most_three n = elim (cases_Bool (nat_lt n 10)) [
   | inl a ↦ rw a (omega arith)
@@ -105,13 +79,3 @@ at_most_three n = elim (cases_Bool (nat_lt n 10)) [
     | inr b ↦ rw (a, b) (omega arith)
   ]
 ]
-
--- what is left of a row that was put
-pub row_cut : (n at : ℕ) (old new : List ℕ) → n < 256 → at ≤ length old → take (at + 3) new ≡ take at old ++ row n
-    → take (at + length (octet_digits n)) new ≡ take at old ++ octet_digits n
-row_cut n at old new lt le e =
-    let k = length (octet_digits n) in
-    let cut : take (at + k) new ≡ take (at + k) (take at old ++ row n) =
-    sym (take-take (at + k) (at + 3) new (omega (arith, at_most_three n))) ∙ ap (λ l. take (at + k) l) e in
-    let place : at + k ≡ length (take at old) + k = ap (λ m. m + k) (sym (length-take-le at old le)) in
-    cut ∙ ap (λ m. take m (take at old ++ row n)) place ∙ take-append-add (take at old) (row n) k ∙ ap (λ l. take at old ++ l) (each_has_row 256 n octets_have_rows lt)

@@ -1,5 +1,4 @@
 pub mod ReadingLemmas
-pub mod NameLemmas
 pub mod PutLemmas
 pub mod FileLemmas
 pub mod EventLemmas

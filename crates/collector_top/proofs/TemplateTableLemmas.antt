@@ -1,5 +1,5 @@
 -- What a table of definitions has after a change, and that it keeps well-formed ones.
-use Rattle.std.proofs.Common.{◌≡◌, ℕ, Bool, true, false, not, cond, List, [], ◌∷◌, ◌++◌, Some, None, length, ◌<◌, arith, ap, sym, subst, ◌∙◌, refl}
+use Rattle.std.proofs.Common.{◌≡◌, ℕ, Bool, true, false, not, cond, List, [], ◌∷◌, ◌++◌, Some, None, length, ap, sym, subst, ◌∙◌, refl}
 use Rattle.std.specs.Prelude.{Option, Result, Ok, Err, OnOk, OnErr, option_map, option_copied, IfSome, ◌↔◌, filter, fold}
 use Rattle.std.specs.BTreeMap.{BTreeMap, get, keys, is_at, Updates, IsUnchanged, IsOrdered}
 use Rattle.std.specs.Ordering.{nat_cmp}
@@ -13,7 +13,7 @@ use Rattle.std.proofs.lemmas.Map.Keys.{IsDistinct-from_sorted}
 use Rattle.col_base.specs.declared.base.Kind.{Kind}
 use Rattle.wire_spec.specs.Message.{specifiers_size}
 use Rattle.wire_spec.specs.Content.{Definition, Touch}
-use Rattle.wire_spec.specs.Specifiers.{DefineRecords, defined_by}
+use Rattle.wire_spec.specs.Specifiers.{defined_by}
 use Rattle.wire_spec.specs.WellFormed.{HasScope, IsWellFormed}
 use Rattle.wire_spec.proofs.SpecifierLemmas.{define_well}
 use Rattle.template_spec.specs.Valid.{same_kind, unless_kind, touched}
@@ -52,15 +52,10 @@ pub well_found : (rows : Table) (id : ℕ) (found : Option (Bor (Arc Definition 
 well_found rows id None kept e = tt
 well_found rows id (Some d) kept e = kept id d.now.value (ap value_of (sym e))
 
-some_fields : (count : ℕ) → (count ≡ 0 → ⊥) → 0 < count
-some_fields count ne = omega arith
-
 -- A definition that is read from the specifiers of a template record is well formed.
-pub read_well : (kind : Kind) (scope count : ℕ) (specs : List ℕ) (definition : Definition) → AreSpecifiers kind scope count specs → (count ≡ 0 → ⊥) → HasScope kind scope
+pub read_well : (kind : Kind) (scope count : ℕ) (specs : List ℕ) (definition : Definition) → AreSpecifiers kind scope count specs → HasScope kind scope
     → ((n : ℕ) → specifiers_size n specs ≡ length specs → definition ≡ defined_by kind scope n specs) → IsWellFormed definition
-read_well kind scope count specs definition s ne has is =
-    let d : DefineRecords scope count specs = record { whole = s.whole; some = some_fields count ne; within = s.within; shortest = s.shortest } in
-    subst IsWellFormed (sym (is count s.whole)) (define_well kind scope count specs d has)
+read_well kind scope count specs definition s has is = subst IsWellFormed (sym (is count s.define.whole)) (define_well kind scope count specs s.define has)
 
 -- One touch later.
 pub one_touch_later : (start old new : ℕ → Option Definition) (touches : List Touch) (touch : Touch) → ((id : ℕ) → old id ≡ fold (touched id) (start id) touches)

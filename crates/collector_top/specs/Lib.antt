@@ -1,5 +1,4 @@
 pub mod Reading
-pub mod Plain
 pub mod Printed
 pub mod Built
 pub mod TemplateTable

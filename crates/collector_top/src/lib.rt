@@ -4,7 +4,6 @@
 //! message. Contracts state the octets by the definitions of run_spec; the program stands above.
 #![tactic(auto)]
 
-mod address;
 mod call;
 mod data;
 mod decimal;
