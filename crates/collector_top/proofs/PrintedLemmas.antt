@@ -2,7 +2,7 @@
 use Rattle.std.proofs.Common.{◌≡◌, ◌≤◌, ℕ, true, false, List, Some, None, inl, inr, refl, ap, sym, ◌∙◌}
 use Rattle.std.specs.Prelude.{decimal, nat_eq, nat_le, ◌||◌, Option, length}
 use Rattle.std.specs.List.{join_by}
-use Rattle.std.proofs.lemmas.Bool.{and_parts, or_cases, eqb-true, eq-eqb, ne_eqb, leb-true}
+use Rattle.std.proofs.lemmas.Bool.{and_parts, or_cases, eqb-true, ne_eqb, leb-true}
 use Rattle.wire_spec.specs.declared.field.FieldSpec.{FieldSpec}
 use Rattle.text_spec.specs.Marks.{before_name, after_name, colon, dot}
 use Rattle.text_spec.specs.Number.{number_of}
@@ -104,8 +104,8 @@ number_few value few = leb-true (length value) 8 (and_parts _ _ few).1
 pub number_other : (value : List ℕ) → is_reduced 8 value ≡ false → value_text (Some T.Unsigned64) value ≡ octet_text value
 number_other value more = other T.Unsigned64 value (rw more refl)
 
-pub ipv4_covered : (value : List ℕ) → length value ≡ 4 → value_text (Some T.Ipv4Address) value ≡ quoted (join_by decimal dot value)
-ipv4_covered value four = typed (Some T.Ipv4Address) T.Ipv4Address value (quoted (join_by decimal dot value)) refl (covered_address value (eq-eqb (length value) 4 four))
+pub ipv4_covered : (value : List ℕ) → nat_eq (length value) 4 ≡ true → value_text (Some T.Ipv4Address) value ≡ quoted (join_by decimal dot value)
+ipv4_covered value four = typed (Some T.Ipv4Address) T.Ipv4Address value (quoted (join_by decimal dot value)) refl (covered_address value four)
 
-pub ipv4_other : (value : List ℕ) → (length value ≡ 4 → ⊥) → value_text (Some T.Ipv4Address) value ≡ octet_text value
-ipv4_other value more = other T.Ipv4Address value (rw (ne_eqb (length value) 4 more) refl)
+pub ipv4_other : (value : List ℕ) → nat_eq (length value) 4 ≡ false → value_text (Some T.Ipv4Address) value ≡ octet_text value
+ipv4_other value more = other T.Ipv4Address value (rw more refl)

@@ -1,5 +1,5 @@
 // The values of the types that are printed.
-ghost use Rattle.std.specs.Prelude.{◌≡◌, ◌≤◌, ◌++◌, IfOk, Some, true, length};
+ghost use Rattle.std.specs.Prelude.{◌≡◌, ◌≤◌, ◌==◌, ◌++◌, IfOk, Some, true, length};
 ghost use Rattle.text_spec.specs.Builtin.{builtin_rows};
 ghost use Rattle.text_spec.specs.declared.element.ElementType.TheVariants as T;
 ghost use Rattle.text_spec.specs.Fields.{pair_of};
@@ -60,6 +60,14 @@ fn put_unsigned(
     Ok(put_number(value, text, at))
 }
 
+/// Whether these are the octets of an IPv4 address.
+#[inline(always)]
+fn is_address(value: &[u8]) -> bool
+    ensures { result ≡ (length value.now == 4) }
+{
+    value.len() == 4
+}
+
 /// Puts a value of the type ipv4Address.
 #[inline(always)]
 fn put_ipv4(
@@ -72,7 +80,7 @@ fn put_ipv4(
     ensures grown { IfOk result (λ end. so_far out.new text.new end ≡ so_far out.old text.old at ++ value_text (Some T.Ipv4Address) value.now) }
     ensures near { IfOk result (λ end. end ≤ 1020) }
 {
-    if value.len() != 4 {
+    if !is_address(value) {
         return put_other(value, text, at, out);
     }
     Ok(put_address(value, text, at))
