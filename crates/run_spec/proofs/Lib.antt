@@ -6,3 +6,4 @@ pub mod ExistsLemmas
 pub mod OneSession
 pub mod DomainLemmas
 pub mod PartLemmas
+pub mod DroppedLemmas

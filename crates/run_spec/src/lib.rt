@@ -4,6 +4,7 @@
 #![tactic(auto)]
 
 mod domains;
+mod dropped;
 mod example;
 mod late;
 mod one_domain;
@@ -12,6 +13,7 @@ mod part;
 mod unique;
 
 pub use domains::a_session_keeps_its_first_domains;
+pub use dropped::what_a_dropped_message_defines_is_not_used;
 pub use example::{
     a_malformed_message_is_left_out, a_message_is_decoded, a_withdrawal_ends_a_template,
     padding_is_no_record, templates_last_from_message_to_message,

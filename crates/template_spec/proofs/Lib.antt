@@ -1,2 +1,3 @@
 pub mod DefinedLemmas
 pub mod MeaningLemmas
+pub mod EndedLemmas

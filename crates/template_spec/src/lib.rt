@@ -3,9 +3,13 @@
 //! function.
 #![tactic(auto)]
 
+mod ended;
 mod example;
 mod valid;
 
+pub use ended::{
+    a_definition_replaces_one_of_either_kind, a_withdrawal_of_all_leaves_the_other_kind,
+};
 pub use example::{
     definitions_of_several_times_over_udp, definitions_one_after_another,
     over_udp_a_definition_ends_with_its_lifetime,
