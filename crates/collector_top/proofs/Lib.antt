@@ -12,3 +12,5 @@ pub mod PlanLemmas
 pub mod PieceLemmas
 pub mod PrintedLemmas
 pub mod RecordsLemmas
+pub mod CheckLemmas
+pub mod WordLemmas

@@ -1,9 +1,9 @@
 -- What `direct` promises.
-use Rattle.std.specs.Prelude.{ℕ, ◌≡◌, ◌⊎◌, ◌<◌, ◌≤◌, ◌^◌, ◌≢◌, ◌++◌, ⊤, List, [], Option, Some, None, length, MatchOption}
+use Rattle.std.specs.Prelude.{ℕ, ◌≡◌, ◌⊎◌, ◌<◌, ◌≤◌, ◌^◌, ◌≢◌, ◌++◌, ⊤, List, [], Option, Some, None, length}
 use Rattle.arrival_spec.specs.declared.event.Scripted.{Scripted}
 use Rattle.run_spec.specs.Result.{IsFileText}
 use Rattle.site_io.specs.Outside.{Rose, one_more}
-use Rattle.site_io.specs.Seen.{Seen, PlaceSeen, SinkSeen, SaidSeen, ChangesSay}
+use Rattle.site_io.specs.Seen.{Seen, PlaceSeen, SinkSeen, SaidSeen}
 use Rattle.site_io.specs.Writes.{Grows}
 use Rattle.collector_top.specs.declared.reading.ReadEnd.{ReadEnd}
 use Rattle.collector_top.specs.declared.reading.ReadEnd.TheVariants as end
@@ -190,7 +190,3 @@ pub record Directs (place out : List ℕ) (old new : Seen) (status : ℕ) : Type
   pub reports : Reports (old.place place) (new.place place) (old.sink out) (new.sink out) old.say new.say status
   pub leaves : Leaves (old.place place) (new.place place) (old.sink out) (new.sink out) status
   pub completes : Completes (old.place place) (new.place place) (old.sink out) (new.sink out) old.say new.say status
-
--- what the words ask for is done; where they are refused nothing but what was said has changed
-abbrev pub Serves : Option (List ℕ × List ℕ) → Seen → Seen → ℕ → Type 0
-Serves names old new status = MatchOption names (ChangesSay old new) (λ n. Directs n.0 n.1 old new status)

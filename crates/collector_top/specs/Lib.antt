@@ -10,3 +10,5 @@ pub mod Report
 pub mod Direct
 pub mod Words
 pub mod Pieces
+pub mod Verdict
+pub mod Check

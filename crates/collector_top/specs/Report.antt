@@ -79,9 +79,12 @@ silent_status (outcome.NotBuilt e) = 2
 silent_status (outcome.Written e) = unless_greater (run_status e false)
 silent_status (outcome.SinkFailed e) = unless_greater (run_status e true)
 
--- the status is that of what came, or tells that a line could not be printed, or that memory was wanted
+-- the status is a call's own, or tells that a line could not be printed, or that memory was wanted
+abbrev pub TellsStatus : ℕ → ℕ → SaidSeen → SaidSeen → ℕ → Type 0
+TellsStatus own silent say now_say status = (status ≡ own) ⊎ ((status ≡ 6) ⊎ ((status ≡ silent) × Rose say.faults now_say.faults))
+
 abbrev pub HasStatus : Outcome → SaidSeen → SaidSeen → ℕ → Type 0
-HasStatus came say now_say status = (status ≡ outcome_status came) ⊎ ((status ≡ 6) ⊎ ((status ≡ silent_status came) × Rose say.faults now_say.faults))
+HasStatus came say now_say status = TellsStatus (outcome_status came) (silent_status came) say now_say status
 
 -- these lines were printed, and a front of them where printing failed or memory was wanted
 pub record SaysLines (say now_say : SaidSeen) (status : ℕ) (lines : List ℕ) : Type 0 where

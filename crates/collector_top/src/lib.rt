@@ -1,10 +1,12 @@
 //! The top call: words in, a status out. Every run of the program is one call of `collect_main` over a Site.
 //!
 //! `direct` reads a whole file, plans what is to be printed of each message, and then writes the lines, message by
-//! message. Contracts state the octets by the definitions of run_spec; the program stands above.
+//! message. `check` reads a description and its element files, and tells the first fault. Contracts state the
+//! octets by the definitions of run_spec, config_spec and element_spec; the program stands above.
 #![tactic(auto)]
 
 mod call;
+mod check;
 mod data;
 mod decimal;
 mod direct;
@@ -23,7 +25,9 @@ mod room;
 mod session;
 mod templates;
 mod value;
+mod verdict;
 mod words;
 
 pub use call::collect_main;
+pub use check::check_run;
 pub use direct::direct_run;

@@ -22,7 +22,7 @@ pub enum Line {
 impl Line {
     /// The octets of the line.
     #[tactic(auto, unfolding(crate::specs::Report::not_built_text, crate::specs::Report::source_text, crate::specs::Report::sink_text, crate::specs::Report::limit_text, crate::specs::Report::memory_text))]
-    fn text(self) -> &'static [u8]
+    pub fn text(self) -> &'static [u8]
         ensures { result.now ≡ line_text self }
     {
         match self {
@@ -35,13 +35,22 @@ impl Line {
     }
 }
 
+/// Prints octets.
+pub fn say_octets<S: Site>(site: &mut S, octets: &[u8]) -> Result<(), OutsideFault>
+    ensures others { ChangesSay (S.seen site.old) (S.seen site.new) }
+    ensures counts { Counts (S.seen site.old).say.faults (S.seen site.new).say.faults result }
+    ensures said { PutsText (S.seen site.old).say.said (S.seen site.new).say.said octets.now result }
+{
+    site.say(octets)
+}
+
 /// Prints a line.
-fn say_line<S: Site>(site: &mut S, line: Line) -> Result<(), OutsideFault>
+pub fn say_line<S: Site>(site: &mut S, line: Line) -> Result<(), OutsideFault>
     ensures others { ChangesSay (S.seen site.old) (S.seen site.new) }
     ensures counts { Counts (S.seen site.old).say.faults (S.seen site.new).say.faults result }
     ensures said { PutsText (S.seen site.old).say.said (S.seen site.new).say.said (line_text line) result }
 {
-    site.say(line.text())
+    say_octets(site, line.text())
 }
 
 /// Prints the line of an input whose reading ended so, if it has one.

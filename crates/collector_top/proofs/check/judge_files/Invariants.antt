@@ -1,0 +1,10 @@
+use Rattle.std.proofs.Common.{◌≡◌, take}
+use Rattle.collector_top.specs.Check.{HasTable, KeepsRest}
+use Rattle.collector_top.proofs.check.judge_files.Given as goal
+
+abbrev pub invariant-loop-name : goal.invariant-loop-name
+invariant-loop-name g l = record {
+  table : HasTable (g.S.Site.seen l.initial.site).text (take l.name-index l.names) l.table;
+  texts : (g.S.Site.seen l.site).text ≡ (g.S.Site.seen l.initial.site).text;
+  rest : KeepsRest (g.S.Site.seen l.initial.site) (g.S.Site.seen l.site);
+}
