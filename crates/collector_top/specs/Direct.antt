@@ -133,7 +133,7 @@ abbrev pub LeavesDone : PlaceSeen → PlaceSeen → SinkSeen → SinkSeen → Ty
 LeavesDone place now_place sink now_sink =
     (given : List Scripted) × Took place now_place given × EndsReading place.left now_place.left given end.End × IsBuilt given × HoldsText sink now_sink given
 
--- 2: what was given isn't in the first form, and nothing was written
+-- 2: what was given isn't built, and nothing was written
 abbrev pub LeavesNotBuilt : PlaceSeen → PlaceSeen → SinkSeen → SinkSeen → Type 0
 LeavesNotBuilt place now_place sink now_sink = (given : List Scripted) × Took place now_place given × Ended place now_place given × (IsBuilt given → ⊥) × Holds sink.held now_sink.held []
 

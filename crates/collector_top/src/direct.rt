@@ -24,7 +24,7 @@ pub enum Outcome {
     NoSource,
     /// The sink could not be opened.
     NoSink,
-    /// What the source gave has a form that isn't built yet; and why the reading had ended.
+    /// What the source gave isn't built yet; and why the reading had ended.
     NotBuilt(ReadEnd),
     /// The text was written, or the sink failed meanwhile; and why the reading had ended.
     Written(ReadEnd),
@@ -137,7 +137,7 @@ fn run_named<S: Site>(alloc: Global, spec: &InputSpec, out: &str, site: &mut S) 
 
 /// Reads the file at `place` and writes a JSON line for each of its records to `out`.
 ///
-/// The status is 0 where that is done; 2 where the file has a form that isn't built yet; 3 where the source failed;
+/// The status is 0 where that is done; 2 where the file has records that aren't built yet; 3 where the source failed;
 /// 4 where the sink or the printing failed; 5 where the source gave 2^48 answers without an end; 6 where memory was
 /// wanted.
 pub fn direct_run<S: Site>(alloc: Global, place: &str, out: &str, site: &mut S) -> u8
