@@ -1,0 +1,303 @@
+#!/usr/bin/env python3
+"""compare_direct.py PROGRAM [ROUNDS [SEED]]: holds `PROGRAM direct` to a second reader, written apart and slowly.
+
+Each round makes an IPFIX File out of templates, withdrawals, data sets and strange sets of a few domains, most of
+them right; many are then cut or changed in some octets. What `direct` answers and writes is compared with what
+RFC 7011 and docs/FORMATS.md say of the file, read here set by set. The first file that differs is kept.
+"""
+
+import random
+import subprocess
+import sys
+import tempfile
+
+VARIABLE = 65535
+NAMES = {1: "octetDeltaCount", 8: "sourceIPv4Address", 12: "destinationIPv4Address"}
+MOST_DOMAINS = 1024
+
+
+class NotBuilt(Exception):
+    """A decoded record whose text is not built yet."""
+
+
+class Malformed(Exception):
+    """A message that breaks a rule."""
+
+
+def number(octets):
+    return int.from_bytes(octets, "big")
+
+
+def messages_of(stream):
+    """The whole messages of a stream, up to what is torn or broken."""
+    while len(stream) >= 4 and number(stream[:2]) == 10 and 16 <= number(stream[2:4]) <= len(stream):
+        length = number(stream[2:4])
+        yield stream[:length]
+        stream = stream[length:]
+
+
+def sets_of(message):
+    """The sets of a message, each with its ID and its body."""
+    at = 16
+    while at < len(message):
+        if len(message) - at < 4:
+            raise Malformed
+        length = number(message[at + 2 : at + 4])
+        if length < 4 or at + length > len(message):
+            raise Malformed
+        yield number(message[at : at + 2]), message[at + 4 : at + length]
+        at += length
+
+
+def template_records_of(set_id, body):
+    """(template ID, None) for a withdrawal, else (template ID, (kind, scope, fields))."""
+    while len(body) >= 4 and any(body):
+        template, count = number(body[:2]), number(body[2:4])
+        if template < 256 and not (template == set_id and count == 0):
+            raise Malformed
+        body = body[4:]
+        if count == 0:
+            yield template, None
+            continue
+        scope = 0
+        if set_id == 3:
+            if len(body) < 2:
+                raise Malformed
+            scope, body = number(body[:2]), body[2:]
+            if scope == 0 or scope > count:
+                raise Malformed
+        fields = []
+        for _ in range(count):
+            size = 8 if body and body[0] & 0x80 else 4
+            if len(body) < size:
+                raise Malformed
+            enterprise = number(body[4:8]) if size == 8 else 0
+            fields.append((enterprise, number(body[:2]) & 0x7FFF, number(body[2:4])))
+            body = body[size:]
+        if least(fields) == 0:
+            raise Malformed
+        yield template, (set_id, scope, fields)
+
+
+def least(fields):
+    return sum(1 if length == VARIABLE else length for _, _, length in fields)
+
+
+def record_of(fields, body):
+    """The values of the record that begins the body, and what is behind it; None where none does."""
+    values = []
+    for _, _, length in fields:
+        if length == VARIABLE:
+            if not body:
+                return None
+            length, body = body[0], body[1:]
+            if length == 255:
+                if len(body) < 2:
+                    return None
+                length, body = number(body[:2]), body[2:]
+        if len(body) < length:
+            return None
+        values.append(body[:length])
+        body = body[length:]
+    return values, body
+
+
+def records_of(fields, body):
+    """The records of a body; None where it has no cutting into records and padding."""
+    records = []
+    while len(body) >= least(fields):
+        found = record_of(fields, body)
+        if found is None:
+            return None
+        records.append(found[0])
+        body = found[1]
+    return records
+
+
+def text_of(element, value):
+    if element == 1 and 1 <= len(value) <= 8:
+        return str(number(value))
+    if element in (8, 12) and len(value) == 4:
+        return '"' + ".".join(str(octet) for octet in value) + '"'
+    return '"0x' + value.hex() + '"'
+
+
+def line_of(fields, values):
+    pairs = (f',"iana:{NAMES[element]}":{text_of(element, value)}' for (_, element, _), value in zip(fields, values))
+    return '{"@type":"ipfix.entry"' + "".join(pairs) + "}\n"
+
+
+def is_built(definition):
+    kind, _, fields = definition
+    elements = [(enterprise, element) for enterprise, element, _ in fields]
+    known = all(enterprise == 0 and element in NAMES for enterprise, element in elements)
+    return kind == 2 and known and len(set(elements)) == len(elements)
+
+
+def touch(table, set_id, template, definition):
+    if definition is not None:
+        table[template] = definition
+    elif template == set_id:
+        for other in [key for key, (kind, _, _) in table.items() if kind == set_id]:
+            del table[other]
+    else:
+        table.pop(template, None)
+
+
+def lines_of(stream):
+    """The lines of a stream."""
+    tables, lines = {}, []
+    for message in messages_of(stream):
+        try:
+            sets = [(i, body, list(template_records_of(i, body)) if i in (2, 3) else []) for i, body in sets_of(message)]
+        except Malformed:
+            continue
+        domain = number(message[12:16])
+        if domain not in tables and len(tables) == MOST_DOMAINS:
+            continue
+        table = tables.setdefault(domain, {})
+        for set_id, body, touches in sets:
+            for template, definition in touches:
+                touch(table, set_id, template, definition)
+            if set_id >= 256 and set_id in table:
+                fields = table[set_id][2]
+                records = records_of(fields, body)
+                if records and not is_built(table[set_id]):
+                    raise NotBuilt
+                lines.extend(line_of(fields, values) for values in records or [])
+    return lines
+
+
+def answer_of(stream):
+    """The status of `direct`, what it prints, and what it writes."""
+    try:
+        return 0, b"", "".join(lines_of(stream)).encode()
+    except NotBuilt:
+        return 2, b"not built\n", b""
+
+
+class Maker:
+    """Makes files."""
+
+    def __init__(self, random_source):
+        self.random = random_source
+        self.definitions = {}
+
+    def field(self):
+        kind = self.random.random()
+        if kind < 0.03:
+            return (self.random.randrange(1, 9), self.random.choice([1, 8, 7]), self.random.randrange(0, 9))
+        if kind < 0.05:
+            return (0, self.random.randrange(0, 500), self.random.choice([0, 1, 4, VARIABLE]))
+        element = self.random.choice([1, 1, 8, 12])
+        usual = 4 if element != 1 else self.random.randrange(1, 9)
+        return (0, element, usual if self.random.random() < 0.7 else self.random.choice([0, 1, 5, 9, VARIABLE]))
+
+    def fields(self):
+        fields = [self.field() for _ in range(self.random.randrange(1, 4))]
+        if self.random.random() < 0.9:
+            fields = list({(enterprise, element): (enterprise, element, length) for enterprise, element, length in fields}.values())
+        return fields
+
+    def specifiers(self, fields):
+        made = b""
+        for enterprise, element, length in fields:
+            bit = 0x8000 if enterprise else 0
+            made += (bit | element).to_bytes(2, "big") + length.to_bytes(2, "big")
+            made += enterprise.to_bytes(4, "big") if enterprise else b""
+        return made
+
+    def set_with(self, set_id, body):
+        return set_id.to_bytes(2, "big") + (4 + len(body)).to_bytes(2, "big") + body
+
+    def template_set(self, domain):
+        options = self.random.random() < 0.1
+        body = b""
+        for _ in range(self.random.randrange(1, 4)):
+            template = self.random.randrange(256, 262)
+            if self.random.random() < 0.15:
+                whole = self.random.random() < 0.3
+                body += ((3 if options else 2) if whole else template).to_bytes(2, "big") + b"\0\0"
+                continue
+            fields = self.fields()
+            body += template.to_bytes(2, "big") + len(fields).to_bytes(2, "big")
+            body += self.random.randrange(1, len(fields) + 1).to_bytes(2, "big") if options else b""
+            body += self.specifiers(fields)
+            self.definitions[domain, template] = fields
+        body += b"\0" * (self.random.choice([0, 0, 0, 1, 3, 4, 8]))
+        return self.set_with(3 if options else 2, body)
+
+    def value(self, length):
+        if length != VARIABLE:
+            return self.random.randbytes(length)
+        size = self.random.choice([0, 1, 4, 4, 8, 9, 254, 255, 300])
+        long = size > 254 or self.random.random() < 0.2
+        return (b"\xff" + size.to_bytes(2, "big") if long else bytes([size])) + self.random.randbytes(size)
+
+    def data_set(self, domain):
+        template = self.random.randrange(256, 262)
+        fields = self.definitions.get((domain, template), [(0, 8, 4)])
+        records = self.random.choice([0, 1, 1, 2, 3, 9])
+        body = b"".join(self.value(length) for _ in range(records) for _, _, length in fields)
+        body += self.random.randbytes(self.random.choice([0, 0, 0, 1, 2, 3]))
+        return self.set_with(template, body)
+
+    def any_set(self, domain):
+        kind = self.random.random()
+        if kind < 0.35:
+            return self.template_set(domain)
+        if kind < 0.95:
+            return self.data_set(domain)
+        return self.set_with(self.random.choice([0, 1, 4, 255]), self.random.randbytes(self.random.randrange(0, 9)))
+
+    def message(self, domain):
+        body = b"".join(self.any_set(domain) for _ in range(self.random.randrange(0, 5)))
+        head = b"\0\x0a" + (16 + len(body)).to_bytes(2, "big") + self.random.randbytes(8)
+        return head + domain.to_bytes(4, "big") + body
+
+    def stream(self):
+        domains = self.random.choice([1, 1, 2, 3, 1100])
+        count = self.random.randrange(0, 12) if domains < 1000 else 1300
+        stream = b"".join(self.message(self.random.randrange(domains)) for _ in range(count))
+        return self.spoiled(bytearray(stream))
+
+    def spoiled(self, stream):
+        kind = self.random.random()
+        if kind < 0.6 or not stream:
+            return bytes(stream)
+        if kind < 0.75:
+            return bytes(stream[: self.random.randrange(len(stream))])
+        for _ in range(self.random.randrange(1, 4)):
+            stream[self.random.randrange(len(stream))] = self.random.choice([0, 1, 2, 3, 4, 10, 255, self.random.randrange(256)])
+        return bytes(stream)
+
+
+def main(program, rounds, seed):
+    maker = Maker(random.Random(seed))
+    came = {0: 0, 2: 0}
+    lines = 0
+    with tempfile.TemporaryDirectory() as folder:
+        source, sink = f"{folder}/in.ipfix", f"{folder}/out.json"
+        for turn in range(rounds):
+            maker.definitions.clear()
+            stream = maker.stream()
+            with open(source, "wb") as file:
+                file.write(stream)
+            done = subprocess.run([program, "direct", source, sink], capture_output=True, timeout=60)
+            with open(sink, "rb") as file:
+                written = file.read()
+            wanted = answer_of(stream)
+            if (done.returncode, done.stdout, written) != wanted:
+                with open("differs.ipfix", "wb") as file:
+                    file.write(stream)
+                print(f"round {turn}: status {done.returncode}, wanted {wanted[0]}; the file is differs.ipfix")
+                return 1
+            came[done.returncode] += 1
+            lines += written.count(b"\n")
+    print(f"{rounds} files alike: {came[0]} with status 0 and {lines} lines, {came[2]} not built")
+    return 0
+
+
+if __name__ == "__main__":
+    arguments = sys.argv[1:]
+    sys.exit(main(arguments[0], int(arguments[1]) if len(arguments) > 1 else 1000, int(arguments[2]) if len(arguments) > 2 else 1))
