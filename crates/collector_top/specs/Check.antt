@@ -5,11 +5,14 @@ use Rattle.config_spec.specs.declared.conf.Conf.{Conf}
 use Rattle.config_spec.specs.Description.{description}
 use Rattle.element_spec.specs.declared.fault.TableFault.{TableFault}
 use Rattle.element_spec.specs.Table.{element_table, text_added}
+use Rattle.site_io.specs.declared.outside.OutsideFault.{OutsideFault}
+use Rattle.site_io.specs.Outside.{Counts}
 use Rattle.site_io.specs.Seen.{Seen, TextSeen, TextRefuses, ChangesSay}
 use Rattle.collector_top.specs.declared.verdict.Refusal.{Refusal}
 use Rattle.collector_top.specs.declared.verdict.Refusal.TheVariants as refusal
 use Rattle.collector_top.specs.Direct.{Directs}
-use Rattle.collector_top.specs.Report.{TellsStatus}
+use Rattle.collector_top.specs.Put.{PutsText}
+use Rattle.collector_top.specs.Report.{TellsStatus, usage_text}
 use Rattle.collector_top.specs.Verdict.{verdict_status, silent_verdict, SaysVerdict}
 
 -- the octets of a text, where they are told
@@ -128,6 +131,13 @@ pub record Checks (file : List ℕ) (old new : Seen) (status : ℕ) : Type 0 whe
   pub said : SaysVerdict verdict old.say new.say status
   pub never_usage : status ≡ 1 → ⊥
 
--- what the words ask for is done, `direct` of two names or `check` of one; where they are refused nothing but what was said has changed
+-- words are refused: the usage line was printed, or a front of it where printing failed or memory was wanted, and nothing else has changed
+pub record Refuses (old new : Seen) : Type 0 where
+  pub others : ChangesSay old new
+  pub answer : Result (Unit {0}) OutsideFault
+  pub counts : Counts old.say.faults new.say.faults answer
+  pub said : PutsText old.say.said new.say.said usage_text answer
+
+-- what the words ask for is done, `direct` of two names or `check` of one, or they are refused
 abbrev pub Serves : Option (List ℕ × List ℕ) → Option (List ℕ) → Seen → Seen → ℕ → Type 0
-Serves direct check old new status = MatchOption direct (MatchOption check (ChangesSay old new) (λ name. Checks name old new status)) (λ n. Directs n.0 n.1 old new status)
+Serves direct check old new status = MatchOption direct (MatchOption check (Refuses old new) (λ name. Checks name old new status)) (λ n. Directs n.0 n.1 old new status)

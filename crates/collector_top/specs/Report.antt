@@ -1,4 +1,4 @@
--- The lines that a call of `direct` prints, and its status.
+-- The lines that a call prints, and the status of `direct`.
 use Rattle.std.specs.Prelude.{ℕ, ◌≡◌, ◌≢◌, ◌⊎◌, List, [], ◌++◌, Bool, true, false, nat_lt, if◌then◌else◌, codes}
 use Rattle.site_io.specs.Outside.{Rose}
 use Rattle.site_io.specs.Seen.{SaidSeen}
@@ -10,6 +10,9 @@ use Rattle.collector_top.specs.declared.direct.Outcome.TheVariants as outcome
 use Rattle.collector_top.specs.declared.report.Line.{Line}
 use Rattle.collector_top.specs.declared.report.Line.TheVariants as line
 use Rattle.collector_top.specs.Put.{GrowsByFront}
+
+unfoldable pub usage_text : List ℕ
+usage_text = codes "usage: ipfixcol direct IN OUT, check -c FILE, collect -c FILE, generate NUMBER COUNT\n"
 
 unfoldable pub not_built_text : List ℕ
 not_built_text = codes "not built\n"
@@ -27,6 +30,7 @@ unfoldable pub memory_text : List ℕ
 memory_text = codes "memory\n"
 
 abbrev pub line_text : Line → List ℕ
+line_text line.Usage = usage_text
 line_text line.NotBuilt = not_built_text
 line_text line.SourceFault = source_text
 line_text line.SinkFault = sink_text

@@ -1,18 +1,23 @@
 // The top call.
 ghost use Rattle.std.specs.Prelude.{◌≡◌, ◌↔◌, None, MatchOption, map, string_bytes};
-ghost use Rattle.site_io.specs.Seen.{ChangesSay};
-ghost use Rattle.collector_top.specs.Check.{Serves};
+ghost use Rattle.collector_top.specs.Check.{Refuses, Serves};
 ghost use Rattle.collector_top.specs.Words.{direct_names, check_name};
 
 use crate::check::check_run;
 use crate::direct::direct_run;
+use crate::report::{Line, say_line};
 use crate::words::{check_name, direct_names};
 use site_io::Site;
 use std::alloc::Global;
 
-/// What is printed where the words are refused.
-const USAGE: &[u8] =
-    b"usage: ipfixcol direct IN OUT, check -c FILE, collect -c FILE, generate NUMBER COUNT\n";
+/// Prints the usage line, and answers the status of words that are refused.
+fn refuse<S: Site>(site: &mut S) -> u8
+    ensures refuses { Refuses (S.seen site.old) (S.seen site.new) }
+    ensures status { result ≡ 1 }
+{
+    let _said = say_line(site, Line::Usage);
+    1
+}
 
 /// Does what the words ask for, and answers the program's status: 1 exactly where the words are refused.
 pub fn collect_main<S: Site>(alloc: Global, words: &Vec<String>, site: &mut S) -> u8
@@ -25,9 +30,6 @@ pub fn collect_main<S: Site>(alloc: Global, words: &Vec<String>, site: &mut S) -
     }
     match check_name(words) {
         Some(name) => check_run(alloc, name, site),
-        None => {
-            let _ = site.say(USAGE);
-            1
-        }
+        None => refuse(site),
     }
 }

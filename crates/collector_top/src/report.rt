@@ -12,6 +12,7 @@ use site_io::{OutsideFault, Site};
 /// A line that a call prints.
 #[derive(Clone, Copy, Debug, PartialEq, Eq)]
 pub enum Line {
+    Usage,
     NotBuilt,
     SourceFault,
     SinkFault,
@@ -21,11 +22,12 @@ pub enum Line {
 
 impl Line {
     /// The octets of the line.
-    #[tactic(auto, unfolding(crate::specs::Report::not_built_text, crate::specs::Report::source_text, crate::specs::Report::sink_text, crate::specs::Report::limit_text, crate::specs::Report::memory_text))]
+    #[tactic(auto, unfolding(crate::specs::Report::usage_text, crate::specs::Report::not_built_text, crate::specs::Report::source_text, crate::specs::Report::sink_text, crate::specs::Report::limit_text, crate::specs::Report::memory_text))]
     pub fn text(self) -> &'static [u8]
         ensures { result.now ≡ line_text self }
     {
         match self {
+            Line::Usage => b"usage: ipfixcol direct IN OUT, check -c FILE, collect -c FILE, generate NUMBER COUNT\n",
             Line::NotBuilt => b"not built\n",
             Line::SourceFault => b"source fault: in\n",
             Line::SinkFault => b"sink fault: out\n",
