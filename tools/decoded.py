@@ -30,6 +30,7 @@ DECODED = {
     "empty_template": ("File", ["empty_template"]),
     "data_alone": ("File", ["data_alone"]),
     "flow_and_data": ("File", ["one_flow", "data_alone"]),
+    "flow_twice": ("Tcp", ["one_flow", "one_flow"]),
     "one_after_the_other": ("File", ["first_template", "second_template"]),
     "malformed_between": ("File", ["one_flow", "empty_template", "data_alone"]),
     "withdrawn": ("Tcp", ["one_flow", "withdrawal", "data_alone", "one_flow"]),

@@ -84,6 +84,13 @@ decodes_flow_and_data life = (
   (refl, ((((record { id = 256; definition = flow_definition; records = ((record { octets = (10 ∷ 0 ∷ 0 ∷ 1 ∷ 10 ∷ 0 ∷ 0 ∷ 2 ∷ 0 ∷ 0 ∷ 3 ∷ 232 ∷ []); values = ((10 ∷ 0 ∷ 0 ∷ 1 ∷ []) ∷ (10 ∷ 0 ∷ 0 ∷ 2 ∷ []) ∷ (0 ∷ 0 ∷ 3 ∷ 232 ∷ []) ∷ []) }) ∷ []) }) ∷ []), (([]), ((record { id = 256; definition = flow_definition; records = ((record { octets = (10 ∷ 0 ∷ 0 ∷ 1 ∷ 10 ∷ 0 ∷ 0 ∷ 2 ∷ 0 ∷ 0 ∷ 3 ∷ 232 ∷ []); values = ((10 ∷ 0 ∷ 0 ∷ 1 ∷ []) ∷ (10 ∷ 0 ∷ 0 ∷ 2 ∷ []) ∷ (0 ∷ 0 ∷ 3 ∷ 232 ∷ []) ∷ []) }) ∷ []) }) ∷ []), refl, (((record { id = 256; definition = flow_definition; records = ((record { octets = (10 ∷ 0 ∷ 0 ∷ 1 ∷ 10 ∷ 0 ∷ 0 ∷ 2 ∷ 0 ∷ 0 ∷ 3 ∷ 232 ∷ []); values = ((10 ∷ 0 ∷ 0 ∷ 1 ∷ []) ∷ (10 ∷ 0 ∷ 0 ∷ 2 ∷ []) ∷ (0 ∷ 0 ∷ 3 ∷ 232 ∷ []) ∷ []) }) ∷ []) }) ∷ []), ([]), (refl, record { cut = record { end = ([]); whole = refl; each = ((((10 ∷ 0 ∷ 0 ∷ 1 ∷ []) ∷ (10 ∷ 0 ∷ 0 ∷ 2 ∷ []) ∷ (0 ∷ 0 ∷ 3 ∷ 232 ∷ []) ∷ []), ((10 ∷ 0 ∷ 0 ∷ 1 ∷ []), (10 ∷ 0 ∷ 0 ∷ 2 ∷ 0 ∷ 0 ∷ 3 ∷ 232 ∷ []), record { whole = refl; spelled = refl }, ((10 ∷ 0 ∷ 0 ∷ 2 ∷ []), (0 ∷ 0 ∷ 3 ∷ 232 ∷ []), record { whole = refl; spelled = refl }, ((0 ∷ 0 ∷ 3 ∷ 232 ∷ []), ([]), record { whole = refl; spelled = refl }, refl, refl), refl), refl)), tt); ends = lit< tt }; each = (((10 ∷ 0 ∷ 0 ∷ 1 ∷ []), (10 ∷ 0 ∷ 0 ∷ 2 ∷ 0 ∷ 0 ∷ 3 ∷ 232 ∷ []), record { whole = refl; spelled = refl }, ((10 ∷ 0 ∷ 0 ∷ 2 ∷ []), (0 ∷ 0 ∷ 3 ∷ 232 ∷ []), record { whole = refl; spelled = refl }, ((0 ∷ 0 ∷ 3 ∷ 232 ∷ []), ([]), record { whole = refl; spelled = refl }, refl, refl), refl), refl), tt) }, λ e. cc), refl, refl), refl), refl), ((((record { id = 256; definition = flow_definition; records = ((record { octets = (10 ∷ 0 ∷ 0 ∷ 1 ∷ 10 ∷ 0 ∷ 0 ∷ 2 ∷ 0 ∷ 0 ∷ 3 ∷ 232 ∷ []); values = ((10 ∷ 0 ∷ 0 ∷ 1 ∷ []) ∷ (10 ∷ 0 ∷ 0 ∷ 2 ∷ []) ∷ (0 ∷ 0 ∷ 3 ∷ 232 ∷ []) ∷ []) }) ∷ []) }) ∷ []), (((record { id = 256; definition = flow_definition; records = ((record { octets = (10 ∷ 0 ∷ 0 ∷ 1 ∷ 10 ∷ 0 ∷ 0 ∷ 2 ∷ 0 ∷ 0 ∷ 3 ∷ 232 ∷ []); values = ((10 ∷ 0 ∷ 0 ∷ 1 ∷ []) ∷ (10 ∷ 0 ∷ 0 ∷ 2 ∷ []) ∷ (0 ∷ 0 ∷ 3 ∷ 232 ∷ []) ∷ []) }) ∷ []) }) ∷ []), ([]), (refl, record { cut = record { end = ([]); whole = refl; each = ((((10 ∷ 0 ∷ 0 ∷ 1 ∷ []) ∷ (10 ∷ 0 ∷ 0 ∷ 2 ∷ []) ∷ (0 ∷ 0 ∷ 3 ∷ 232 ∷ []) ∷ []), ((10 ∷ 0 ∷ 0 ∷ 1 ∷ []), (10 ∷ 0 ∷ 0 ∷ 2 ∷ 0 ∷ 0 ∷ 3 ∷ 232 ∷ []), record { whole = refl; spelled = refl }, ((10 ∷ 0 ∷ 0 ∷ 2 ∷ []), (0 ∷ 0 ∷ 3 ∷ 232 ∷ []), record { whole = refl; spelled = refl }, ((0 ∷ 0 ∷ 3 ∷ 232 ∷ []), ([]), record { whole = refl; spelled = refl }, refl, refl), refl), refl)), tt); ends = lit< tt }; each = (((10 ∷ 0 ∷ 0 ∷ 1 ∷ []), (10 ∷ 0 ∷ 0 ∷ 2 ∷ 0 ∷ 0 ∷ 3 ∷ 232 ∷ []), record { whole = refl; spelled = refl }, ((10 ∷ 0 ∷ 0 ∷ 2 ∷ []), (0 ∷ 0 ∷ 3 ∷ 232 ∷ []), record { whole = refl; spelled = refl }, ((0 ∷ 0 ∷ 3 ∷ 232 ∷ []), ([]), record { whole = refl; spelled = refl }, refl, refl), refl), refl), tt) }, λ e. cc), refl, refl), refl), (refl, tt)))),
 )
 
+pub decodes_flow_twice : (life : Lifetimes) → AreDecodedTo Tcp life (one_session 0 Tcp (one_flow ∷ one_flow ∷ [])) (noted Tcp (one_flow_decoded ∷ one_flow_decoded ∷ []))
+decodes_flow_twice life = (
+  (SessionOpen (key_of 0 0) Tcp ∷ Raw (key_of 0 0) (Ok one_flow_message) ∷ Raw (key_of 0 0) (Ok one_flow_message) ∷ SessionClose (key_of 0 0) ∷ []),
+  (refl, ((Ok one_flow_message, one_flow_says, refl), ((Ok one_flow_message, one_flow_says, refl), (refl, tt)))),
+  (refl, ((((record { id = 256; definition = flow_definition; records = ((record { octets = (10 ∷ 0 ∷ 0 ∷ 1 ∷ 10 ∷ 0 ∷ 0 ∷ 2 ∷ 0 ∷ 0 ∷ 3 ∷ 232 ∷ []); values = ((10 ∷ 0 ∷ 0 ∷ 1 ∷ []) ∷ (10 ∷ 0 ∷ 0 ∷ 2 ∷ []) ∷ (0 ∷ 0 ∷ 3 ∷ 232 ∷ []) ∷ []) }) ∷ []) }) ∷ []), (([]), ((record { id = 256; definition = flow_definition; records = ((record { octets = (10 ∷ 0 ∷ 0 ∷ 1 ∷ 10 ∷ 0 ∷ 0 ∷ 2 ∷ 0 ∷ 0 ∷ 3 ∷ 232 ∷ []); values = ((10 ∷ 0 ∷ 0 ∷ 1 ∷ []) ∷ (10 ∷ 0 ∷ 0 ∷ 2 ∷ []) ∷ (0 ∷ 0 ∷ 3 ∷ 232 ∷ []) ∷ []) }) ∷ []) }) ∷ []), refl, (((record { id = 256; definition = flow_definition; records = ((record { octets = (10 ∷ 0 ∷ 0 ∷ 1 ∷ 10 ∷ 0 ∷ 0 ∷ 2 ∷ 0 ∷ 0 ∷ 3 ∷ 232 ∷ []); values = ((10 ∷ 0 ∷ 0 ∷ 1 ∷ []) ∷ (10 ∷ 0 ∷ 0 ∷ 2 ∷ []) ∷ (0 ∷ 0 ∷ 3 ∷ 232 ∷ []) ∷ []) }) ∷ []) }) ∷ []), ([]), (refl, record { cut = record { end = ([]); whole = refl; each = ((((10 ∷ 0 ∷ 0 ∷ 1 ∷ []) ∷ (10 ∷ 0 ∷ 0 ∷ 2 ∷ []) ∷ (0 ∷ 0 ∷ 3 ∷ 232 ∷ []) ∷ []), ((10 ∷ 0 ∷ 0 ∷ 1 ∷ []), (10 ∷ 0 ∷ 0 ∷ 2 ∷ 0 ∷ 0 ∷ 3 ∷ 232 ∷ []), record { whole = refl; spelled = refl }, ((10 ∷ 0 ∷ 0 ∷ 2 ∷ []), (0 ∷ 0 ∷ 3 ∷ 232 ∷ []), record { whole = refl; spelled = refl }, ((0 ∷ 0 ∷ 3 ∷ 232 ∷ []), ([]), record { whole = refl; spelled = refl }, refl, refl), refl), refl)), tt); ends = lit< tt }; each = (((10 ∷ 0 ∷ 0 ∷ 1 ∷ []), (10 ∷ 0 ∷ 0 ∷ 2 ∷ 0 ∷ 0 ∷ 3 ∷ 232 ∷ []), record { whole = refl; spelled = refl }, ((10 ∷ 0 ∷ 0 ∷ 2 ∷ []), (0 ∷ 0 ∷ 3 ∷ 232 ∷ []), record { whole = refl; spelled = refl }, ((0 ∷ 0 ∷ 3 ∷ 232 ∷ []), ([]), record { whole = refl; spelled = refl }, refl, refl), refl), refl), tt) }, λ e. cc), refl, refl), refl), refl), ((((record { id = 256; definition = flow_definition; records = ((record { octets = (10 ∷ 0 ∷ 0 ∷ 1 ∷ 10 ∷ 0 ∷ 0 ∷ 2 ∷ 0 ∷ 0 ∷ 3 ∷ 232 ∷ []); values = ((10 ∷ 0 ∷ 0 ∷ 1 ∷ []) ∷ (10 ∷ 0 ∷ 0 ∷ 2 ∷ []) ∷ (0 ∷ 0 ∷ 3 ∷ 232 ∷ []) ∷ []) }) ∷ []) }) ∷ []), (([]), ((record { id = 256; definition = flow_definition; records = ((record { octets = (10 ∷ 0 ∷ 0 ∷ 1 ∷ 10 ∷ 0 ∷ 0 ∷ 2 ∷ 0 ∷ 0 ∷ 3 ∷ 232 ∷ []); values = ((10 ∷ 0 ∷ 0 ∷ 1 ∷ []) ∷ (10 ∷ 0 ∷ 0 ∷ 2 ∷ []) ∷ (0 ∷ 0 ∷ 3 ∷ 232 ∷ []) ∷ []) }) ∷ []) }) ∷ []), refl, (((record { id = 256; definition = flow_definition; records = ((record { octets = (10 ∷ 0 ∷ 0 ∷ 1 ∷ 10 ∷ 0 ∷ 0 ∷ 2 ∷ 0 ∷ 0 ∷ 3 ∷ 232 ∷ []); values = ((10 ∷ 0 ∷ 0 ∷ 1 ∷ []) ∷ (10 ∷ 0 ∷ 0 ∷ 2 ∷ []) ∷ (0 ∷ 0 ∷ 3 ∷ 232 ∷ []) ∷ []) }) ∷ []) }) ∷ []), ([]), (refl, record { cut = record { end = ([]); whole = refl; each = ((((10 ∷ 0 ∷ 0 ∷ 1 ∷ []) ∷ (10 ∷ 0 ∷ 0 ∷ 2 ∷ []) ∷ (0 ∷ 0 ∷ 3 ∷ 232 ∷ []) ∷ []), ((10 ∷ 0 ∷ 0 ∷ 1 ∷ []), (10 ∷ 0 ∷ 0 ∷ 2 ∷ 0 ∷ 0 ∷ 3 ∷ 232 ∷ []), record { whole = refl; spelled = refl }, ((10 ∷ 0 ∷ 0 ∷ 2 ∷ []), (0 ∷ 0 ∷ 3 ∷ 232 ∷ []), record { whole = refl; spelled = refl }, ((0 ∷ 0 ∷ 3 ∷ 232 ∷ []), ([]), record { whole = refl; spelled = refl }, refl, refl), refl), refl)), tt); ends = lit< tt }; each = (((10 ∷ 0 ∷ 0 ∷ 1 ∷ []), (10 ∷ 0 ∷ 0 ∷ 2 ∷ 0 ∷ 0 ∷ 3 ∷ 232 ∷ []), record { whole = refl; spelled = refl }, ((10 ∷ 0 ∷ 0 ∷ 2 ∷ []), (0 ∷ 0 ∷ 3 ∷ 232 ∷ []), record { whole = refl; spelled = refl }, ((0 ∷ 0 ∷ 3 ∷ 232 ∷ []), ([]), record { whole = refl; spelled = refl }, refl, refl), refl), refl), tt) }, λ e. cc), refl, refl), refl), refl), (refl, tt)))),
+)
+
 pub decodes_one_after_the_other : (life : Lifetimes) → AreDecodedTo File life (one_session 0 File (first_template ∷ second_template ∷ [])) (noted File (first_template_decoded ∷ second_template_decoded ∷ []))
 decodes_one_after_the_other life = (
   (SessionOpen (key_of 0 0) File ∷ Raw (key_of 0 0) (Ok first_template_message) ∷ Raw (key_of 0 0) (Ok second_template_message) ∷ SessionClose (key_of 0 0) ∷ []),

@@ -7,3 +7,6 @@ pub mod OneSession
 pub mod DomainLemmas
 pub mod PartLemmas
 pub mod DroppedLemmas
+pub mod LineLemmas
+pub mod LateLemmas
+pub mod ViewLemmas

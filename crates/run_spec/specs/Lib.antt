@@ -6,3 +6,5 @@ pub mod Judge
 pub mod Decode
 pub mod OneDomain
 pub mod Result
+pub mod Lines
+pub mod View

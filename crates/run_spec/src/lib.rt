@@ -7,6 +7,7 @@ mod domains;
 mod dropped;
 mod example;
 mod late;
+mod lines;
 mod one_domain;
 mod one_session;
 mod part;
@@ -19,7 +20,12 @@ pub use example::{
     padding_is_no_record, templates_last_from_message_to_message,
     values_of_variable_length_are_decoded,
 };
-pub use late::over_udp_old_messages_are_late;
+pub use late::{a_message_is_late_behind_a_newer_one, over_udp_old_messages_are_late};
+pub use lines::{
+    a_file_has_a_line_for_each_record, a_message_has_its_view,
+    a_stream_has_the_text_of_its_messages, an_input_has_one_text, lines_are_as_the_settings_say,
+    only_what_is_decoded_has_a_line,
+};
 pub use one_domain::{
     a_file_of_one_domain_is_decoded_in_order, all_template_records_of_a_domain_count,
     one_more_message_is_decoded_in_order, one_more_set_is_decoded,

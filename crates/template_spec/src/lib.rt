@@ -9,6 +9,7 @@ mod valid;
 
 pub use ended::{
     a_definition_replaces_one_of_either_kind, a_withdrawal_of_all_leaves_the_other_kind,
+    over_udp_withdrawals_play_no_part,
 };
 pub use example::{
     definitions_of_several_times_over_udp, definitions_one_after_another,

@@ -1,15 +1,15 @@
 -- The known texts are those of the definitions: each by computation.
 use Rattle.std.proofs.Common.{refl}
-use Rattle.text_spec.specs.Marks.{quote, hexadecimal_mark, dot, colon, comma, equals_sign, space, four_spaces, line_feed, true_text, false_text, escaped_quote, escaped_backslash, escape_mark, enterprise_mark, id_mark, before_name, after_name, list_start, list_end, entry_start, options_start, line_end}
+use Rattle.text_spec.specs.Marks.{quote, hexadecimal_mark, dot, colon, comma, equals_sign, space, four_spaces, line_feed, slash, session_mark, open_mark, close_mark, tick_mark, message_mark, domain_mark, export_mark, sequence_mark, records_mark, template_mark, true_text, false_text, escaped_quote, escaped_backslash, escape_mark, enterprise_mark, id_mark, before_name, after_name, list_start, list_end, entry_start, options_start, line_end}
 use Rattle.text_spec.specs.Value.{value_text}
 use Rattle.text_spec.specs.Name.{find_element, name_text, type_at}
 use Rattle.text_spec.specs.Json.{json_line}
-use Rattle.text_spec.specs.View.{view_line}
+use Rattle.text_spec.specs.View.{transport_word, opened_line, closed_line, tick_line, message_line, set_line, view_line}
 use Rattle.text_spec.specs.Builtin.{builtin_rows}
 use Rattle.std.specs.Str.{is_utf8, chars}
 use Rattle.std.specs.Fmt.{digits}
 use Rattle.std.specs.Net.Text.{hex, hex_groups_text}
-use Rattle.text_spec.specs.Examples.{HaveTexts, unsigned_values, signed_values, boolean_values, address_values, ipv6_values, string_values, time_values, octet_values, HasFlowLine, HasFlowView, HasNameLine, HasRepeatedLine, HasNamedLine, HasOptionsLine, HasPaddedLine}
+use Rattle.text_spec.specs.Examples.{HaveTexts, unsigned_values, signed_values, boolean_values, address_values, ipv6_values, string_values, time_values, octet_values, HasFlowLine, HasFlowView, HaveViews, HasNameLine, HasRepeatedLine, HasNamedLine, HasOptionsLine, HasPaddedLine}
 
 pub unsigned_have_texts : HaveTexts unsigned_values
 unfolding value_text quote hexadecimal_mark dot colon true_text false_text escaped_quote escaped_backslash escape_mark is_utf8 chars digits hex hex_groups_text lib.Utf8.encode
@@ -70,3 +70,7 @@ padded_line = refl
 pub flow_view : HasFlowView
 unfolding view_line builtin_rows find_element name_text type_at value_text quote dot colon equals_sign space four_spaces line_feed digits
 flow_view = refl
+
+pub line_views : HaveViews
+unfolding transport_word opened_line closed_line tick_line message_line set_line space line_feed slash session_mark open_mark close_mark tick_mark message_mark domain_mark export_mark sequence_mark records_mark template_mark digits
+line_views = record { opened_file = refl; opened_tcp = refl; opened_udp = refl; closed = refl; tick = refl; message = refl; set = refl }

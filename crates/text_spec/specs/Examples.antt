@@ -3,13 +3,15 @@ use Rattle.std.specs.Prelude.{◌≡◌, ℕ, List, [], ◌∷◌, ◌++◌, Opt
 use Rattle.std.specs.List.{AllByRecursion}
 use Prim.Native.String.{String}
 use Rattle.col_base.specs.declared.base.Kind.TheVariants.{Template, Options}
+use Rattle.col_base.specs.declared.base.SessionKey.{SessionKey}
+use Rattle.col_base.specs.declared.base.Transport.TheVariants.{Tcp, Udp, File}
 use Rattle.wire_spec.specs.declared.field.FieldSpec.{FieldSpec}
 use Rattle.text_spec.specs.declared.element.Element.{Element}
 use Rattle.text_spec.specs.declared.element.ElementType.{ElementType}
 use Rattle.text_spec.specs.declared.element.ElementType.TheVariants as T
 use Rattle.text_spec.specs.Value.{value_text}
 use Rattle.text_spec.specs.Json.{json_line}
-use Rattle.text_spec.specs.View.{view_line}
+use Rattle.text_spec.specs.View.{opened_line, closed_line, tick_line, message_line, set_line, view_line}
 use Rattle.text_spec.specs.Builtin.{builtin_rows}
 
 -- a value of a type, and its text
@@ -139,6 +141,19 @@ HasFlowLine = json_line builtin_rows Template flow_fields flow_values
 abbrev pub HasFlowView : Type 0
 HasFlowView = view_line builtin_rows flow_fields flow_values
     ≡ line "    iana:sourceIPv4Address=\"10.0.0.1\" iana:destinationIPv4Address=\"10.0.0.2\" iana:octetDeltaCount=1000"
+
+abbrev pub key : ℕ → ℕ → SessionKey
+key input number = record { input = input; number = number }
+
+-- sessions, seconds, a message and a set
+pub record HaveViews : Type 0 where
+  pub opened_file : opened_line (key 0 0) File ≡ line "session 0/0 open file"
+  pub opened_tcp : opened_line (key 3 12) Tcp ≡ line "session 3/12 open tcp"
+  pub opened_udp : opened_line (key 15 4095) Udp ≡ line "session 15/4095 open udp"
+  pub closed : closed_line (key 3 12) ≡ line "session 3/12 close"
+  pub tick : tick_line 3 1700000000 ≡ line "tick 3 1700000000"
+  pub message : message_line (key 0 2) 1 100 4294967295 20 ≡ line "message 0/2 domain 1 export 100 sequence 4294967295 records 20"
+  pub set : set_line 256 20 ≡ line "  template 256 records 20"
 
 -- a text of variable length
 abbrev pub HasNameLine : Type 0

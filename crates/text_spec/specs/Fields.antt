@@ -1,4 +1,4 @@
--- The elements of a record's fields (RFC 7011, section 3.2): a template may name one element several times.
+-- The elements of a record's fields (RFC 7011, sections 3.2 and 8): a template may name one element several times.
 use Rattle.std.specs.Prelude.{ℕ, Bool, true, not, ◌&&◌, ◌==◌, List, [], ◌∷◌, map, filter}
 use Rattle.std.specs.List.{list_any}
 use Rattle.wire_spec.specs.declared.field.FieldSpec.{FieldSpec}

@@ -73,3 +73,38 @@ options_start = codes "{\"@type\":\"ipfix.options\""
 
 unfoldable pub line_end : List ℕ
 line_end = codes "}" ++ 10 ∷ []
+
+-- what stands between the numbers of a line that people read
+unfoldable pub slash : List ℕ
+slash = codes "/"
+
+unfoldable pub session_mark : List ℕ
+session_mark = codes "session "
+
+unfoldable pub open_mark : List ℕ
+open_mark = codes " open "
+
+unfoldable pub close_mark : List ℕ
+close_mark = codes " close"
+
+unfoldable pub tick_mark : List ℕ
+tick_mark = codes "tick "
+
+unfoldable pub message_mark : List ℕ
+message_mark = codes "message "
+
+unfoldable pub domain_mark : List ℕ
+domain_mark = codes " domain "
+
+unfoldable pub export_mark : List ℕ
+export_mark = codes " export "
+
+unfoldable pub sequence_mark : List ℕ
+sequence_mark = codes " sequence "
+
+unfoldable pub records_mark : List ℕ
+records_mark = codes " records "
+
+-- a line of a set begins with two spaces
+unfoldable pub template_mark : List ℕ
+template_mark = codes "  template "

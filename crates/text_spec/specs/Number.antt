@@ -1,4 +1,4 @@
--- The numbers that octets stand for (RFC 7011, section 6.1.1 and 6.1.2).
+-- The numbers that octets stand for (RFC 7011, section 6.1.1).
 use Rattle.std.specs.Prelude.{ℕ, ◌+◌, ◌-◌, ◌*◌, ◌^◌, List, fold, length, nat_lt, ℤ, pos, negsuc, if◌then◌else◌}
 
 -- the unsigned number, the first octet the highest

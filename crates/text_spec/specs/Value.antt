@@ -40,6 +40,7 @@ abbrev pub boolean_text : List ℕ → Option (List ℕ)
 boolean_text octets = if bytes_eq octets (1 ∷ []) then Some true_text
     else if bytes_eq octets (2 ∷ []) then Some false_text else None
 
+-- addresses have all octets of their type (RFC 7011, section 6.1.2)
 abbrev pub mac_text : List ℕ → Option (List ℕ)
 mac_text octets = text_where (length octets == 6) (quoted (join_by hex_pair colon octets))
 
@@ -50,7 +51,7 @@ ipv4_text octets = text_where (length octets == 4) (quoted (join_by decimal dot 
 abbrev pub ipv6_text : List ℕ → Option (List ℕ)
 ipv6_text octets = text_where (length octets == 16) (quoted (hex_groups_text (segments_of octets)))
 
--- the octets before the zero octets at their end
+-- the octets of a string before the zero octets at their end (RFC 7011, section 6.1.6)
 abbrev pub before_end_zeros : List ℕ → List ℕ
 before_end_zeros octets = take (length octets - suffix_len (λ octet. octet == 0) octets) octets
 

@@ -1,5 +1,5 @@
 // Known texts, to which the definitions are held. The functions do nothing: each contract states a text.
-ghost use Rattle.text_spec.specs.Examples.{HaveTexts, unsigned_values, signed_values, boolean_values, address_values, ipv6_values, string_values, time_values, octet_values, HasFlowLine, HasFlowView, HasNameLine, HasRepeatedLine, HasNamedLine, HasOptionsLine, HasPaddedLine};
+ghost use Rattle.text_spec.specs.Examples.{HaveTexts, unsigned_values, signed_values, boolean_values, address_values, ipv6_values, string_values, time_values, octet_values, HasFlowLine, HasFlowView, HaveViews, HasNameLine, HasRepeatedLine, HasNamedLine, HasOptionsLine, HasPaddedLine};
 
 #[tactic(auto, using(crate::proofs::KnownTexts::unsigned_have_texts))]
 pub fn unsigned_values_have_their_texts()
@@ -49,6 +49,11 @@ pub fn a_flow_has_its_line()
 #[tactic(auto, using(crate::proofs::KnownTexts::flow_view))]
 pub fn a_flow_has_its_view()
     ensures { HasFlowView }
+{}
+
+#[tactic(auto, using(crate::proofs::KnownTexts::line_views))]
+pub fn sessions_messages_and_sets_have_their_views()
+    ensures { HaveViews }
 {}
 
 #[tactic(auto, using(crate::proofs::KnownTexts::name_line))]
