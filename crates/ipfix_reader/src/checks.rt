@@ -1,22 +1,14 @@
 // Checks whether octets are a message.
-ghost use Rattle.std.specs.Prelude.{◌≡◌, ◌≤◌, ◌<◌, ◌^◌, IfNone, MatchResult, length, drop};
+ghost use Rattle.std.specs.Prelude.{◌≡◌, ◌≤◌, ◌<◌, ◌^◌, IfNone, MatchResult, length};
 ghost use Rattle.wire_spec.specs.Message.{FirstFault, first_broken, header_rules};
 ghost use Rattle.ipfix_reader.specs.Walk.{IsSomeMessage};
 ghost use Rattle.ipfix_reader.specs.Octets.{octets_of};
 
 use crate::items::check_row;
-use crate::message::Message;
+use crate::message::{Message, sets_of};
 use crate::set_rules::SetsInMessage;
 use col_base::be16;
 use wire_spec::{Malformed, MalformedKind};
-
-/// The octets behind the header.
-fn body_of(octets: &[u8]) -> &[u8]
-    requires { 16 ≤ length octets.now }
-    ensures { result.now ≡ drop 16 octets.now }
-{
-    &octets[16..]
-}
 
 /// The first rule that the header breaks.
 fn header_fault(octets: &[u8]) -> Option<Malformed>
@@ -53,7 +45,7 @@ pub fn check(octets: &[u8]) -> Result<Message<'_>, Malformed>
     if let Some(fault) = header_fault(octets) {
         return Err(fault);
     }
-    match check_row(&SetsInMessage, body_of(octets)) {
+    match check_row(&SetsInMessage, sets_of(octets)) {
         Ok(()) => Ok(Message::new(octets)),
         Err(fault) => Err(Malformed {
             kind: fault.kind,

@@ -29,7 +29,7 @@ pub struct Header {
 }
 
 /// The octets behind the header.
-fn sets_of(octets: &[u8]) -> &[u8]
+pub(crate) fn sets_of(octets: &[u8]) -> &[u8]
     requires { 16 ≤ length octets.now }
     ensures { result.now ≡ drop 16 octets.now }
 {

@@ -3,36 +3,49 @@
 
 mod limited;
 mod real_site;
+mod standard_streams;
 #[cfg(test)]
 mod tests;
 
+use col_base::WantOfMemory;
 use collector_top::collect_main;
 use real_site::RealSite;
-use std::env;
+use site_io::Site;
+use standard_streams::hold_closed;
+use std::env::{self, Env};
 use std::io::ErrorKind;
 use std::process::ExitCode;
 
 /// The status where memory is wanted.
 const NO_MEMORY: u8 = 6;
 
-fn main(rt: HostRuntime) -> ExitCode {
-    let alloc = rt.alloc();
-    let mut words = Vec::new(alloc);
-    match env::args(&rt) {
+/// The words behind the program's name. Words that are no text stand as no words at all, which the top call refuses.
+fn words_of<R: Env + AllocGlobal>(rt: &R) -> Result<Vec<String>, WantOfMemory> {
+    let mut words = Vec::new(rt.alloc());
+    match env::args(rt) {
         Ok(args) => {
             for word in args.skip(1) {
-                if words.push(word).is_err() {
-                    return ExitCode::from(NO_MEMORY);
-                }
+                words.push(word)?;
             }
         }
-        // Words that are no text stand as no words at all, which the top call refuses.
         Err(error) => {
             if error.kind() == ErrorKind::OutOfMemory {
-                return ExitCode::from(NO_MEMORY);
+                return Err(WantOfMemory);
             }
         }
     }
+    Ok(words)
+}
+
+fn main(rt: HostRuntime) -> ExitCode {
+    let _held = hold_closed(&rt);
+    let alloc = rt.alloc();
     let mut site = RealSite::new(&rt, alloc);
-    ExitCode::from(collect_main(alloc, &words, &mut site))
+    match words_of(&rt) {
+        Ok(words) => ExitCode::from(collect_main(alloc, &words, &mut site)),
+        Err(WantOfMemory) => {
+            let _ = site.say(b"memory\n");
+            ExitCode::from(NO_MEMORY)
+        }
+    }
 }

@@ -1,8 +1,6 @@
 // The files of the system as a Site.
-ghost use Rattle.std.specs.Prelude.{◌≡◌, ◌≢◌, ◌≤◌, ℕ, List, IfOk, IsOk, length};
-ghost use Rattle.site_io.specs.Seen.{ChangesText, ChangesPlace, ReadsText, OpensSource};
+ghost use Rattle.std.specs.Prelude.{◌≡◌, ◌≤◌, ℕ, List, IfOk, length};
 ghost use Rattle.site_io.specs.Tally.{nothing, tally_at};
-ghost use Rattle.ipfixcol.specs.RealSite.{real_seen, untold_text, untold_place, untold_sink};
 
 use crate::limited::read_limited;
 use col_base::{Octets, Transport};
@@ -61,10 +59,22 @@ where
 
     type Out = WriteSink<R::File>;
 
+    ghost use Rattle.std.specs.Prelude.{None, false};
+    ghost use Rattle.site_io.specs.Seen.{ChangesText, ChangesPlace, ChangesSink, ReadsText, OpensSource, OpensSink};
+    ghost use Rattle.ipfixcol.specs.RealSite.{real_seen, untold_text, untold_place, untold_sink};
+
     ghost seen = { λ site. real_seen site.texts site.places site.sinks site.say_faults };
 
     /// Failed is a file of more than 16,777,216 octets, and one that can't be read.
-    fn text(&mut self, name: &str) -> Result<Octets, OutsideFault> {
+    fn text(&mut self, name: &str) -> Result<Octets, OutsideFault>
+        // what each Site does
+        ensures read { ReadsText (untold_text (tally_at self.old.texts name.now)) (untold_text (tally_at self.new.texts name.now)) result }
+        ensures others { ChangesText name.now (real_seen self.old.texts self.old.places self.old.sinks self.old.say_faults)
+            (real_seen self.new.texts self.new.places self.new.sinks self.new.say_faults) }
+
+        // how long a text may be
+        ensures length { IfOk result (λ octets. length octets ≤ 16777216) }
+    {
         tally::add(self.alloc, &mut self.texts, name)?;
         let answer = read_file(self.rt, self.alloc, name);
         if let Err(OutsideFault::Failed) = &answer {
@@ -73,8 +83,18 @@ where
         answer
     }
 
-    /// Failed is a transport other than files, and a file that can't be opened.
-    fn open_source(&mut self, spec: &InputSpec) -> Result<ReadSource<R::File>, OutsideFault> {
+    /// Failed is a transport other than files, a place whose source is out, and a file that can't be opened.
+    fn open_source(&mut self, spec: &InputSpec) -> Result<ReadSource<R::File>, OutsideFault>
+        // what each Site does
+        ensures opened { OpensSource (λ _. None) (λ source. source.faults)
+            (untold_place (tally_at self.old.places spec.now.place)) (untold_place (tally_at self.new.places spec.now.place)) result }
+        ensures others { ChangesPlace spec.now.place (real_seen self.old.texts self.old.places self.old.sinks self.old.say_faults)
+            (real_seen self.new.texts self.new.places self.new.sinks self.new.say_faults) }
+
+        // what is opened
+        ensures file { IfOk result (λ _. spec.now.transport ≡ Transport.File) }
+        ensures was_in { IfOk result (λ _. (tally_at self.old.places spec.now.place).out ≡ false) }
+    {
         let place = spec.place.as_str();
         tally::add(self.alloc, &mut self.places, place)?;
         if spec.transport != Transport::File || tally::is_out(&self.places, place) {
@@ -97,8 +117,17 @@ where
         tally::came_back(&mut self.places, spec.place.as_str(), source.has_failed());
     }
 
-    /// Failed is a file that can't be made.
-    fn open_sink(&mut self, name: &str) -> Result<WriteSink<R::File>, OutsideFault> {
+    /// Failed is a name whose sink is out, and a file that can't be made.
+    fn open_sink(&mut self, name: &str) -> Result<WriteSink<R::File>, OutsideFault>
+        // what each Site does
+        ensures opened { OpensSink (λ _. None) (λ _. None) (λ sink. sink.faults)
+            (untold_sink (tally_at self.old.sinks name.now)) (untold_sink (tally_at self.new.sinks name.now)) result }
+        ensures others { ChangesSink name.now (real_seen self.old.texts self.old.places self.old.sinks self.old.say_faults)
+            (real_seen self.new.texts self.new.places self.new.sinks self.new.say_faults) }
+
+        // what is opened
+        ensures was_in { IfOk result (λ _. (tally_at self.old.sinks name.now).out ≡ false) }
+    {
         tally::add(self.alloc, &mut self.sinks, name)?;
         if tally::is_out(&self.sinks, name) {
             tally::refused(&mut self.sinks, name);
