@@ -26,6 +26,11 @@ const THING: &str = "[[element]]\npen = 9\nid = 7\nprefix = \"cisco\"\nname = \"
 
 const OTHER: &str = "[[element]]\npen = 9\nid = 8\nprefix = \"cisco\"\nname = \"other\"\ntype = ";
 
+/// A row of the pair of a built-in element, and one of the name that `one` has.
+const KNOWN: &str = "[[element]]\nid = 8\npen = 0\nprefix = \"cisco\"\nname = \"other\"\ntype = ";
+
+const NAMED: &str = "[[element]]\npen = 10\nid = 7\nprefix = \"cisco\"\nname = \"thing\"\ntype = ";
+
 const CHECK: [&str; 3] = ["check", "-c", "FILE"];
 
 /// A text of this name, which is these pieces joined.
@@ -40,8 +45,9 @@ fn text_of(alloc: Global, name: &str, pieces: &[&str]) -> Result<NamedText, Fail
     })
 }
 
-/// A site of the texts FILE, `one`, of the element 9, 7, `two`, of the element 9, 8, and `bad`, whose second row
-/// is of no known type. Saying fails from the call of that number on, after so many octets.
+/// A site of the texts FILE, `one`, of the element 9, 7, `two`, of the element 9, 8, `bad`, whose second row is of no
+/// known type, `known`, of a built-in element, `named`, of the name that `one` has, and `text`, which is no TOML. Saying
+/// fails from the call of that number on, after so many octets.
 fn site_of(alloc: Global, file: &[&str], fails: &[(u64, usize)]) -> Result<MemorySite, Fail> {
     let mut texts = Vec::new(alloc);
     texts.push(text_of(alloc, "FILE", file)?)?;
@@ -49,6 +55,9 @@ fn site_of(alloc: Global, file: &[&str], fails: &[(u64, usize)]) -> Result<Memor
     texts.push(text_of(alloc, "two", &[OTHER, "\"unsigned32\"\n"])?)?;
     let rows = [THING, "\"unsigned16\"\n", OTHER, "\"unsigned128\"\n"];
     texts.push(text_of(alloc, "bad", &rows)?)?;
+    texts.push(text_of(alloc, "known", &[KNOWN, "\"string\"\n"])?)?;
+    texts.push(text_of(alloc, "named", &[NAMED, "\"string\"\n"])?)?;
+    texts.push(text_of(alloc, "text", &["element"])?)?;
     let mut planned = Vec::new(alloc);
     for (call, taken) in fails {
         planned.push(SinkFail {
@@ -84,7 +93,7 @@ fn run(
 fn a_description_is_checked_with_its_element_files(rt: HostRuntime) -> Result<(), Fail> {
     let alloc = rt.alloc();
     let version = "version = 1\n";
-    let runs: [(&[&str], u8, &str); 17] = [
+    let runs: [(&[&str], u8, &str); 20] = [
         (&RIGHT, 0, "ok\n"),
         (
             &[BEFORE_CUT, "33", BEHIND_CUT],
@@ -99,9 +108,13 @@ fn a_description_is_checked_with_its_element_files(rt: HostRuntime) -> Result<()
         // descriptions with a fault
         (&[version, INPUT], 2, "description: no output\n"),
         (
-            &[version, INPUT, OUTPUT, OUTPUT],
+            &[
+                version,
+                "[[input]]\nname = \"x\"\nkind = \"file\"\npath = \"p\"\n",
+                "[[output]]\nname = \"x\"\nkind = \"json\"\npath = \"q\"\n",
+            ],
             2,
-            "description: duplicate name out\n",
+            "description: duplicate name x\n",
         ),
         (
             &[
@@ -166,6 +179,31 @@ fn a_description_is_checked_with_its_element_files(rt: HostRuntime) -> Result<()
             "elements one: duplicate 9 7\n",
         ),
         (
+            &[version, "elements = [\"known\"]\n", INPUT, OUTPUT],
+            2,
+            "elements known: duplicate 0 8\n",
+        ),
+        (
+            &[
+                version,
+                "elements = [\"one\", \"named\", \"bad\"]\n",
+                INPUT,
+                OUTPUT,
+            ],
+            2,
+            "elements named: duplicate name 0\n",
+        ),
+        (
+            &[
+                version,
+                "elements = [\"named\", \"text\", \"bad\"]\n",
+                INPUT,
+                OUTPUT,
+            ],
+            2,
+            "elements text: not TOML\n",
+        ),
+        (
             &[version, "elements = [\"FILE\"]\n", INPUT, OUTPUT],
             2,
             "elements FILE: bad row 0\n",
@@ -187,7 +225,7 @@ fn a_description_is_checked_with_its_element_files(rt: HostRuntime) -> Result<()
 #[test]
 fn the_name_has_three_spellings(rt: HostRuntime) -> Result<(), Fail> {
     let alloc = rt.alloc();
-    let runs: [(&[&str], u8, &str); 22] = [
+    let runs: [(&[&str], u8, &str); 29] = [
         (&["check", "-c", "FILE"], 0, "ok\n"),
         (&["check", "--config", "FILE"], 0, "ok\n"),
         (&["check", "--config=FILE"], 0, "ok\n"),
@@ -211,6 +249,13 @@ fn the_name_has_three_spellings(rt: HostRuntime) -> Result<(), Fail> {
         (&["check", "--", "-c", "FILE"], 1, USAGE),
         (&["-c", "FILE", "check"], 1, USAGE),
         (&["Check", "-c", "FILE"], 1, USAGE),
+        (&["check"], 1, USAGE),
+        (&["check", "--help"], 1, USAGE),
+        (&["check", "-h"], 1, USAGE),
+        (&["help"], 1, USAGE),
+        (&["check", "--Config", "FILE"], 1, USAGE),
+        (&["check", "--conf=FILE"], 1, USAGE),
+        (&[], 1, USAGE),
     ];
     for (words, status, printed) in runs {
         run(&rt, alloc, words, &RIGHT, &[], (status, printed))?;
