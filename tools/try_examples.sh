@@ -1,6 +1,7 @@
 #!/usr/bin/env bash
 # try_examples.sh PROGRAM: runs `PROGRAM direct` on each file of examples/, and compares the status and the number of
-# lines with what the file is to give. What the lines say is compared where they are one record's alone.
+# lines with what the file is to give. What the lines say is compared where they are one record's alone. Then it runs
+# `PROGRAM check` on each description, which is to be right. PROGRAM is an absolute path, or one from examples/.
 set -u
 cd "$(dirname "$0")/../examples" || exit 1
 program=$1
@@ -40,5 +41,11 @@ try data_alone 0 0
 try variable_names 2 0
 try repeated_element 2 0
 try options 2 0
+for description in descriptions/*.toml; do
+    if [ "$("$program" check -c "$description")" != ok ]; then
+        echo "$description: not ok"
+        failed=1
+    fi
+done
 [ "$failed" = 0 ] && echo "all examples as they are to be"
 exit "$failed"

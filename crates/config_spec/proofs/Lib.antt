@@ -3,6 +3,7 @@ pub mod KnownTexts
 pub mod KnownFaults
 pub mod FirstLemmas
 pub mod NumberLemmas
+pub mod AddressLemmas
 pub mod PrefixLemmas
 pub mod ConfLemmas
 pub mod PartLemmas

@@ -19,16 +19,12 @@ use Rattle.config_spec.specs.Domains.{domain_text, ordered, single, cut_range, r
 use Rattle.config_spec.specs.Fits.{is_alike, is_like}
 use Rattle.config_spec.specs.Values.{no_prefix, ranges_in}
 use Rattle.config_spec.specs.Form.{IsAddress, IsPrefix, AreRanges}
+use Rattle.config_spec.proofs.AddressLemmas.{whole_from}
 
 -- a prefix has as many octets as its address
 pub masked_length : (bits : ℕ) (octets : List ℕ) → length (masked bits octets) ≡ length octets
 masked_length bits [] = refl
 masked_length bits (o ∷ octets) = ap suc (masked_length (bits - 8) octets)
-
-whole_from : (r : Option (List ℕ × List ℕ)) (octets : List ℕ) → whole r ≡ Some octets → r ≡ Some (octets, [])
-whole_from None octets h = absurd (cc)
-whole_from (Some (found, [])) octets h = cc
-whole_from (Some (found, o ∷ rest)) octets h = absurd (cc)
 
 four : (text octets : List ℕ) → address4 text ≡ Some octets → length octets ≡ 4
 unfolding address4

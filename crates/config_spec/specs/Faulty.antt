@@ -52,6 +52,8 @@ kind_faults = tables (input ++ codes "colour = 1\n" ++ output) (codes "unknown k
     ∷ tables (codes "[[input]]\nname = \"in\"\nkind = \"sctp\"\n" ++ output) (codes "unknown plugin input.0.kind")
     ∷ tables (codes "[[input]]\nname = \"in\"\nkind = 1\n" ++ output) (codes "wrong type input.0.kind")
     ∷ tables (codes "[[input]]\nname = \"in\"\n" ++ output) (codes "missing input.0.kind")
+    ∷ tables (codes "[[input]]\nname = 5\nkind = \"file\"\ncolour = 1\n" ++ output) (codes "unknown key input.0.colour")
+    ∷ tables (codes "[[input]]\nkind = \"sctp\"\ncolour = 1\n" ++ output) (codes "unknown plugin input.0.kind")
     ∷ []
 
 abbrev pub input_faults : List Told
@@ -94,15 +96,26 @@ value_faults = tables (rule (codes ", test = \"equal\", value = -1")) (codes "ou
     ∷ tables (rule (codes ", test = \"between\", low = 2, high = 1")) (codes "out of range intermediate.0.rule.0.high")
     ∷ []
 
-abbrev pub prefix_faults : List Told
-prefix_faults = tables (input ++ output ++ stage ++ codes "field = [{ id = 8 }]\nrow = [{ from = \"10.1.0.0/8\", to = \"1.0.0.0\" }, { from = \"10.0.0.0/9\", to = \"1.0.0.0\" }, { from = \"a00::/8\", to = \"::\" }, { from = \"10.2.0.0/08\", to = \"1.0.0.0\" }]\n") (codes "duplicate name 10.2.0.0/08")
-    ∷ []
-
 abbrev pub second : List ℕ
 second = codes "[[input]]\nname = \"in2\"\nkind = \"file\"\npath = \"p\"\n"
 
+-- an output that writes where the first one does
+abbrev pub same_path : List ℕ
+same_path = codes "[[output]]\nname = \"o2\"\nkind = \"view\"\npath = \"q\"\n"
+
+-- an anonymiser with a prefix twice
+abbrev pub same_prefix : List ℕ
+same_prefix = stage ++ codes "field = [{ id = 8 }]\nrow = [{ from = \"::/0\", to = \"::\" }, { from = \"::1/0\", to = \"::\" }]\n"
+
+abbrev pub prefix_faults : List Told
+prefix_faults = tables (input ++ output ++ stage ++ codes "field = [{ id = 8 }]\nrow = [{ from = \"10.1.0.0/8\", to = \"1.0.0.0\" }, { from = \"10.0.0.0/9\", to = \"1.0.0.0\" }, { from = \"a00::/8\", to = \"::\" }, { from = \"10.2.0.0/08\", to = \"1.0.0.0\" }]\n") (codes "duplicate name 10.2.0.0/08")
+    ∷ tables (input ++ second ++ output ++ same_prefix) (codes "duplicate name ::1/0")
+    ∷ tables (input ++ output ++ same_prefix ++ same_path) (codes "duplicate name q")
+    ∷ []
+
 abbrev pub absent_faults : List Told
 absent_faults = tables output (codes "no input")
+    ∷ tables [] (codes "no input")
     ∷ tables input (codes "no output")
     ∷ tables (input ++ input ++ output) (codes "duplicate name in")
     ∷ tables (input ++ second ++ output) (codes "no order log")
@@ -111,7 +124,7 @@ absent_faults = tables output (codes "no input")
 abbrev pub path_faults : List Told
 path_faults = tables (codes "order-log = \"q\"\n" ++ input ++ second ++ output) (codes "duplicate name q")
     ∷ tables (codes "order-log = \"l\"\n" ++ input ++ second ++ output) (codes "ok")
-    ∷ tables (input ++ output ++ codes "[[output]]\nname = \"o2\"\nkind = \"view\"\npath = \"q\"\n") (codes "duplicate name q")
+    ∷ tables (input ++ output ++ same_path) (codes "duplicate name q")
     ∷ []
 
 abbrev pub ordered_faults : List Told

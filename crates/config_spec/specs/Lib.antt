@@ -1,5 +1,6 @@
 pub mod First
 pub mod Texts
+pub mod Grammar
 pub mod Domains
 pub mod Keys
 pub mod Fits

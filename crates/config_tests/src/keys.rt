@@ -11,7 +11,7 @@ fn changed(
     place: usize,
     value: Option<&str>,
 ) -> Result<String, Fail> {
-    let mut text = String::from_str(alloc, sheet.before)?;
+    let mut text = String::from_str(alloc, sheet.place.before)?;
     for (other, line) in sheet.lines.iter().enumerate() {
         let said = if other == place {
             value
@@ -25,13 +25,13 @@ fn changed(
             text.push_str("\n")?;
         }
     }
-    text.push_str(sheet.after)?;
+    text.push_str(sheet.place.after)?;
     Ok(text)
 }
 
 /// The sheet's description with one more key.
 fn extended(alloc: Global, sheet: &Sheet, key: &str) -> Result<String, Fail> {
-    let mut text = String::from_str(alloc, sheet.before)?;
+    let mut text = String::from_str(alloc, sheet.place.before)?;
     text.push_str(key)?;
     text.push_str(" = 1\n")?;
     for line in sheet.lines {
@@ -40,7 +40,7 @@ fn extended(alloc: Global, sheet: &Sheet, key: &str) -> Result<String, Fail> {
         text.push_str(line.value)?;
         text.push_str("\n")?;
     }
-    text.push_str(sheet.after)?;
+    text.push_str(sheet.place.after)?;
     Ok(text)
 }
 
@@ -48,7 +48,7 @@ fn extended(alloc: Global, sheet: &Sheet, key: &str) -> Result<String, Fail> {
 fn fault_at(alloc: Global, words: &str, sheet: &Sheet, line: &Line) -> Result<String, Fail> {
     let mut text = String::from_str(alloc, words)?;
     text.push_str(" ")?;
-    text.push_str(sheet.path)?;
+    text.push_str(sheet.place.path)?;
     text.push_str(line.key)?;
     Ok(text)
 }
@@ -122,7 +122,7 @@ fn a_key_that_no_table_has_is_unknown(rt: HostRuntime) -> Result<(), Fail> {
     for sheet in &sheets(alloc)? {
         for key in ["Name", "colour", "hold", "stage"] {
             let text = extended(alloc, sheet, key)?;
-            let want = format!(in alloc; "unknown key {}{key}", sheet.path)?;
+            let want = format!(in alloc; "unknown key {}{key}", sheet.place.path)?;
             expect(&rt, alloc, text.as_str(), want.as_str())?;
         }
     }

@@ -103,6 +103,36 @@ fn arrays_have_their_greatest_lengths(rt: HostRuntime) -> Result<(), Fail> {
     Ok(())
 }
 
+#[test]
+fn paths_and_addresses_have_at_most_4096_octets(rt: HostRuntime) -> Result<(), Fail> {
+    let alloc = rt.alloc();
+    // a letter of two octets counts as two
+    for (letters, listen, log, element) in [
+        (2048, "ok", "ok", "ok"),
+        (
+            2049,
+            "out of range input.0.listen",
+            "out of range order-log",
+            "out of range elements",
+        ),
+    ] {
+        let long = "é".repeat(alloc, letters)?;
+        let listening = format!(in alloc;
+            "version = 1\n[[input]]\nname = \"in\"\nkind = \"udp\"\nlisten = \"{long}\"\n{OUTPUT}"
+        )?;
+        expect(&rt, alloc, listening.as_str(), listen)?;
+        let logged = format!(in alloc;
+            "version = 1\norder-log = \"{long}\"\n{INPUT}[[input]]\nname = \"b\"\nkind = \"tcp\"\nlisten = \"a\"\n{OUTPUT}"
+        )?;
+        expect(&rt, alloc, logged.as_str(), log)?;
+        let named = format!(in alloc;
+            "version = 1\nelements = [\"a\", \"{long}\"]\n{INPUT}{OUTPUT}"
+        )?;
+        expect(&rt, alloc, named.as_str(), element)?;
+    }
+    Ok(())
+}
+
 /// An anonymiser with so many rows, all of them different.
 fn rows(alloc: Global, count: usize) -> Result<String, Fail> {
     let mut text = format!(in alloc;

@@ -25,12 +25,13 @@ odid-only = "1,3-5"
 
 /// Every key there is: that of examples/descriptions.
 pub const EVERYTHING: &str =
-    r#"# Every key that a description of version 1 has. docs/OPERATING.md says what each is for.
+    r#"# Every key that a description of version 1 has. docs/OPERATING.md says what each is for. The names of files are as
+# they are seen from the folder examples/, so check it there.
 version = 1
 ring = 1024
 slots = 4096
 order-log = "order.log"
-elements = ["iana.toml"]
+elements = ["elements/iana.toml"]
 
 # An IPFIX File that is read once.
 [[input]]

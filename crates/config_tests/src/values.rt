@@ -139,7 +139,7 @@ fn a_description_with_every_key_has_its_values(rt: HostRuntime) -> Result<(), Fa
     assert!(rt; matches!(&conf.order_log, Some(path) if path.as_str() == "order.log"));
     assert_eq!(rt;
         names(&conf, alloc)?.as_str(),
-        "archive feed routers web hide lines copy page iana.toml "
+        "archive feed routers web hide lines copy page elements/iana.toml "
     );
     for stage in conf.stages.as_slice() {
         match &stage.work {

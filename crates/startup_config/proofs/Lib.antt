@@ -1,6 +1,4 @@
 pub mod TreeLemmas
-pub mod DottedLemmas
-pub mod HexLemmas
 pub mod NumberLemmas
 pub mod CutLemmas
 pub mod UnknownLemmas

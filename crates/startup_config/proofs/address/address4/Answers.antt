@@ -1,4 +1,4 @@
-use Rattle.startup_config.proofs.DottedLemmas.{address4_from, address4_none}
+use Rattle.config_spec.proofs.AddressLemmas.{address4_from, address4_none}
 use Rattle.std.proofs.Common.{sym}
 use Rattle.startup_config.proofs.address.address4.Goals as goal
 

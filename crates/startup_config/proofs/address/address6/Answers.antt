@@ -1,6 +1,6 @@
 use Rattle.std.proofs.Common.{◌≡◌, ◌==◌, false, sym, arith}
 use Rattle.std.specs.List.{list_any}
-use Rattle.startup_config.proofs.HexLemmas.{address6_from, address6_none, address6_dotted}
+use Rattle.config_spec.proofs.AddressLemmas.{address6_from, address6_none, address6_dotted}
 use Rattle.startup_config.proofs.address.address6.Goals as goal
 
 pub returns-then-has_dot : goal.returns-then-has_dot
