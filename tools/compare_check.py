@@ -443,12 +443,12 @@ class Maker:
         if self.chance(0.5):
             table = {"kind": "filter", "name": self.fresh("keep")}
             self.maybe(table, "default", self.choice(["keep", "drop"]))
-            self.maybe(table, "rule", self.some(self.rule, [0, 1, 2, 3, 12]))
+            table["rule"] = self.some(self.rule, [0, 1, 2, 3, 12])
         else:
-            table = {"kind": "anonymise", "name": self.fresh("hide"), "field": self.some(self.pair, [1, 2, 64])}
+            table = {"kind": "anonymise", "name": self.fresh("hide"), "field": self.some(self.pair, [1, 2, 9, 64])}
             self.maybe(table, "cut4", self.between(0, 32))
             self.maybe(table, "cut6", self.between(0, 128))
-            self.maybe(table, "row", self.different_rows())
+            table["row"] = self.different_rows()
         return table
 
     def output(self):
@@ -465,9 +465,11 @@ class Maker:
         tree = {"version": 1}
         self.maybe(tree, "ring", self.between(1, 4096))
         self.maybe(tree, "slots", self.between(1, 65536))
-        self.maybe(tree, "elements", self.some(lambda: self.choice(["a.toml", "b.toml", "c.toml"]), [0, 1, 1, 2]))
+        if self.chance(0.7):
+            tree["elements"] = self.some(lambda: self.choice(["a.toml", "b.toml", "c.toml"]), [0, 1, 1, 2])
         tree["input"] = self.some(self.input, [1, 1, 1, 2, 3, 16])
-        self.maybe(tree, "intermediate", self.some(self.intermediate, [0, 1, 2, 3, 16]))
+        if self.chance(0.8):
+            tree["intermediate"] = self.some(self.intermediate, [0, 1, 2, 3, 16])
         tree["output"] = self.some(self.output, [1, 1, 2, 3, 32])
         if len(tree["input"]) > 1:
             tree["order-log"] = self.choice(["log", "order.log"])
@@ -512,9 +514,9 @@ class Maker:
         domains = [self.domains(), "", "0", "4294967295", "4294967296", "1,", ",", "1, 2", "5-4", "5-5", "007-08", "1-", "-1", "1-2-3", "+1"]
         domains += [",".join(["7"] * 64), ",".join(["7"] * 65), "0" * 40 + "1", "1;2", "a", "1-4294967296"]
         acts, kinds = ["keep", "drop", "Keep", "", "keep "], ["file", "tcp", "udp", "filter", "anonymise", "json", "ipfix", "view", "sctp", "", "File"]
-        texts = {"name": words, "prefix": words, "path": places, "listen": places, "order-log": places, "from": prefixes, "to": addresses}
-        texts |= {"odid-only": domains, "odid-except": domains, "default": acts, "act": acts, "kind": kinds, "type": TYPES + ["String", "", "unsigned128"]}
-        texts |= {"test": ["present", "equal", "between", "prefix", "odd", ""], "value": prefixes + [-1, 0, MOST, self.prefix()]}
+        texts = {"name": words, "prefix": words + ["en9", "en007"], "path": places, "listen": places, "order-log": places, "from": prefixes, "to": addresses}
+        texts |= {"odid-only": domains, "odid-except": domains, "default": acts, "act": acts, "kind": kinds, "type": ["String", "", "unsigned128", self.choice(TYPES)]}
+        texts |= {"test": ["present", "equal", "between", "prefix", "odd", "file", ""], "value": prefixes + [-1, 0, MOST, self.prefix()]}
         if key == "elements":
             return self.choice([[""], ["none"], ["folder"], ["a.toml"] * 16, ["a.toml"] * 17, ["a.toml", 1], ["a" * 4097], ["", 1]])
         return self.choice((numbers | texts).get(key) or [self.strange()])
@@ -543,14 +545,14 @@ class Maker:
     def spoil_key(self, table):
         kind = self.random.random()
         key = self.choice(list(table)) if table else self.known_word()
-        if kind < 0.2:
+        if kind < 0.15:
             table.pop(key, None)
-        elif kind < 0.35:
+        elif kind < 0.3:
             table[self.unknown_word()] = self.strange()
-        elif kind < 0.45:
+        elif kind < 0.4:
             word = self.known_word()
             table[word] = self.near(word)
-        elif kind < 0.6:
+        elif kind < 0.5:
             table[key] = self.strange()
         else:
             table[key] = self.near(key)
@@ -673,7 +675,7 @@ class Maker:
             target, like = self.choice(found), self.choice(found)
             target |= self.choice([{"pen": 0, "id": 8}, {"prefix": "iana", "name": "flowId"}, {"prefix": "IANA", "name": "flowId"}])
             target |= {key: like[key] for key in self.choice([[], ["prefix", "name"], ["pen", "id"]]) if key in like}
-        if self.chance(0.3):
+        if self.chance(0.4):
             self.spoil_key(self.some_table(tree))
         return self.octets(tree)
 
@@ -681,7 +683,7 @@ class Maker:
         """The files of a round, by their names."""
         self.count = 0
         tree = self.description()
-        if self.chance(0.6):
+        if self.chance(0.55):
             for _ in range(self.random.randint(1, 3)):
                 self.spoil(tree)
         files = {"conf.toml": self.octets(tree)}
