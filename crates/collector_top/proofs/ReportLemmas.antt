@@ -93,15 +93,14 @@ leaves_status place now_place sink now_sink say now_say status (outcome.SinkFail
 leaves_status place now_place sink now_sink say now_say status (outcome.SinkFailed end.Memory) r l c = absurd l.2
 
 -- a call reports what came of its run
-pub reports_said : (spec place out : List ℕ) (before ran now : Seen) (came : Outcome) (status : ℕ) → spec ≡ place → LeavesAfter (before.place spec) (ran.place spec) (before.sink out) (ran.sink out) came
-    → CountsFaults (before.place spec).faults (ran.place spec).faults (before.sink out).faults (ran.sink out).faults came → ran.say ≡ before.say → ChangesSay ran now → HasStatus came ran.say now.say status
+pub reports_said : (place out : List ℕ) (before ran now : Seen) (came : Outcome) (status : ℕ) → LeavesAfter (before.place place) (ran.place place) (before.sink out) (ran.sink out) came
+    → CountsFaults (before.place place).faults (ran.place place).faults (before.sink out).faults (ran.sink out).faults came → ran.say ≡ before.say → ChangesSay ran now → HasStatus came ran.say now.say status
     → SaysLines ran.say now.say status (outcome_text came) → Reports (before.place place) (now.place place) (before.sink out) (now.sink out) before.say now.say status
-reports_said spec place out before ran now came status same leaves counts silent said so lines =
-    let here : Reports (before.place spec) (ran.place spec) (before.sink out) (ran.sink out) ran.say now.say status = record { came = came; leaves = leaves; counts = counts; so = so; said = lines } in
-    subst (λ (p : List ℕ). Reports (before.place p) (now.place p) (before.sink out) (now.sink out) before.say now.say status) same
-    (subst (λ (s : SaidSeen). Reports (before.place spec) (now.place spec) (before.sink out) (now.sink out) s now.say status) silent
-    (subst (λ (f : List ℕ → PlaceSeen). Reports (before.place spec) (f spec) (before.sink out) (now.sink out) ran.say now.say status) (sym said.places)
-    (subst (λ (f : List ℕ → SinkSeen). Reports (before.place spec) (ran.place spec) (before.sink out) (f out) ran.say now.say status) (sym said.sinks) here)))
+reports_said place out before ran now came status leaves counts silent said so lines =
+    let here : Reports (before.place place) (ran.place place) (before.sink out) (ran.sink out) ran.say now.say status = record { came = came; leaves = leaves; counts = counts; so = so; said = lines } in
+    subst (λ (s : SaidSeen). Reports (before.place place) (now.place place) (before.sink out) (now.sink out) s now.say status) silent
+    (subst (λ (f : List ℕ → PlaceSeen). Reports (before.place place) (f place) (before.sink out) (now.sink out) ran.say now.say status) (sym said.places)
+    (subst (λ (f : List ℕ → SinkSeen). Reports (before.place place) (ran.place place) (before.sink out) (f out) ran.say now.say status) (sym said.sinks) here))
 
 -- and leaves what its status says
 pub leaves_reported : (place now_place : PlaceSeen) (sink now_sink : SinkSeen) (say now_say : SaidSeen) (status : ℕ) → Reports place now_place sink now_sink say now_say status → Leaves place now_place sink now_sink status

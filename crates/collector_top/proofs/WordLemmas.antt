@@ -1,5 +1,5 @@
 -- What follows the start of a word.
-use Rattle.std.proofs.Common.{◌≡◌, ℕ, Bool, true, false, inl, inr, List, ◌++◌, length, take, drop, Option, Some, None, Bor, refl, ap, sym, ◌∙◌, take-append-drop}
+use Rattle.std.proofs.Common.{◌≡◌, ℕ, true, inl, inr, List, ◌++◌, length, take, drop, Option, Some, None, Bor, refl, ap, sym, ◌∙◌, take-append-drop}
 use Rattle.std.specs.Prelude.{MatchOption, bytes_eq}
 use Rattle.std.proofs.Math.Seq.{take-append_seam}
 use Rattle.std.proofs.lemmas.Bool.{cases_Bool}

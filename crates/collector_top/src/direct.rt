@@ -135,6 +135,20 @@ fn run_named<S: Site>(alloc: Global, spec: &InputSpec, out: &str, site: &mut S) 
     outcome
 }
 
+/// Names the input, and runs.
+fn run<S: Site>(alloc: Global, place: &str, out: &str, site: &mut S) -> Outcome
+    ensures shows { ShowsOutcome ((S.seen site.old).place place.now) ((S.seen site.new).place place.now)
+        ((S.seen site.old).sink out.now) ((S.seen site.new).sink out.now) result }
+    ensures leaves { LeavesAfter ((S.seen site.old).place place.now) ((S.seen site.new).place place.now)
+        ((S.seen site.old).sink out.now) ((S.seen site.new).sink out.now) result }
+    ensures others { ChangesPlaceAndSink place.now out.now (S.seen site.old) (S.seen site.new) }
+{
+    let Ok(spec) = input_spec(alloc, place) else {
+        return Outcome::Memory;
+    };
+    run_named(alloc, &spec, out, site)
+}
+
 /// Reads the file at `place` and writes a JSON line for each of its records to `out`.
 ///
 /// The status is 0 where that is done; 2 where the file has records that aren't built yet; 3 where the source failed;
@@ -149,9 +163,6 @@ pub fn direct_run<S: Site>(alloc: Global, place: &str, out: &str, site: &mut S) 
     ensures completes { Completes ((S.seen site.old).place place.now) ((S.seen site.new).place place.now)
         ((S.seen site.old).sink out.now) ((S.seen site.new).sink out.now) (S.seen site.old).say (S.seen site.new).say result }
 {
-    let Ok(spec) = input_spec(alloc, place) else {
-        return 6;
-    };
-    let outcome = run_named(alloc, &spec, out, site);
+    let outcome = run(alloc, place, out, site);
     report(site, outcome)
 }

@@ -27,7 +27,8 @@ impl Line {
         ensures { result.now ≡ line_text self }
     {
         match self {
-            Line::Usage => b"usage: ipfixcol direct IN OUT, check -c FILE, collect -c FILE, generate NUMBER COUNT\n",
+            Line::Usage =>
+                b"usage: ipfixcol direct IN OUT, check -c FILE, collect -c FILE, generate NUMBER COUNT\n",
             Line::NotBuilt => b"not built\n",
             Line::SourceFault => b"source fault: in\n",
             Line::SinkFault => b"sink fault: out\n",
