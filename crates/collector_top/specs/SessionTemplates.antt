@@ -1,5 +1,5 @@
--- The domains of a file's session that are kept, each with its templates (RFC 7011, sections 3.1 and 8.1), and which
--- messages they stand for: each template record of a domain counts for what follows it.
+-- The domains of a file's session that are kept, each with its templates (RFC 7011, sections 3.1, 8 and 8.1), and
+-- which messages they stand for: each template record of a domain counts for what follows it.
 use Rattle.std.specs.Prelude.{ℕ, ◌≡◌, ◌+◌, ◌<◌, ◌==◌, ◌||◌, if◌then◌else◌, nat_lt, nat_le, Bool, true, false, List, [], Option, Some, None, ◌++◌, length, is_some, fold, flat_map}
 use Rattle.std.specs.BTreeMap.{get, btree_map_len, IsUnchanged}
 use Rattle.std.specs.Ordering.{nat_cmp}

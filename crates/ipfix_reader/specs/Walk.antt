@@ -1,5 +1,5 @@
 -- What a step over the sets of a message, and over the template records of a set, gives, and what is said so
--- far (RFC 7011, sections 3.3 and 3.4).
+-- far (RFC 7011, sections 3.3, 3.4 and 8.1).
 use Rattle.std.specs.Prelude.{ℕ, ◌≡◌, ◌+◌, ◌==◌, if◌then◌else◌, nat_lt, List, [], ◌++◌, Option, Some, None, drop, map, length}
 use Rattle.std.specs.List.{AllByRecursion, concat}
 use Rattle.col_base.specs.declared.base.Kind.{Kind}

@@ -1,5 +1,5 @@
-//! Reads IPFIX messages (RFC 7011, section 3): `check` answers the message that octets are, or the first rule
-//! that they break; `Message::sets` goes over its sets, and `template_records` over the template records of
+//! Reads IPFIX messages (RFC 7011, sections 3, 8.1 and 9.1): `check` answers the message that octets are, or the first
+//! rule that they break; `Message::sets` goes over its sets, and `template_records` over the template records of
 //! a set. Nothing is copied, and no memory is taken.
 //!
 //! Contracts see a message as its octets (`octets_of`), and a walk as what is left of it (`sets_left`,

@@ -16,7 +16,8 @@ pub struct RawSet<'a> {
     pub ghost whole: { ∥ IsBody (kind_of id) body.now ∥₁ },
 }
 
-/// A template record as it stands in its set (RFC 7011, section 3.4): a withdrawal where `count` is 0.
+/// A template record as it stands in its set (RFC 7011, section 3.4), where `count` is 0 a withdrawal (section
+/// 8.1).
 #[derive(Clone, Copy)]
 pub struct RawTemplate<'a> {
     pub kind: Kind,

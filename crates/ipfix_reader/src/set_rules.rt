@@ -1,4 +1,4 @@
-// The rules of sets (RFC 7011, section 3.3).
+// The rules of sets (RFC 7011, sections 3.3.2 and 9.1).
 ghost use Rattle.std.specs.Prelude.{◌≡◌, ◌≤◌, ◌<◌, ◌^◌, ◌+◌, IfErr, MatchResult, MatchOption, Some, None, length, drop, take};
 ghost use Rattle.wire_spec.specs.Message.{IsSet, IsNothing, BreaksSet, IsBody, BreaksBody, kind_of, set_size, set_rules, first_broken};
 ghost use Rattle.wire_spec.specs.declared.malformed.MalformedKind.TheVariants.{SetLength};

@@ -1,4 +1,4 @@
--- The line of a record in JSON (RFC 8259).
+-- The line of a record in JSON (RFC 8259, section 4).
 use Rattle.std.specs.Prelude.{ℕ, List, [], ◌∷◌, ◌++◌, zip, flat_map}
 use Rattle.std.specs.List.{join_by}
 use Rattle.col_base.specs.declared.base.Kind.{Kind}

@@ -1,4 +1,4 @@
--- The texts of values by the types of their elements (RFC 7011, section 6; RFC 7012, section 3).
+-- The texts of values by the types of their elements (RFC 7011, section 6; RFC 7012, section 3.1).
 use Rattle.std.specs.Prelude.{ℕ, ◌+◌, ◌-◌, ◌*◌, ◌/◌, ◌%◌, ◌^◌, Bool, ◌&&◌, ◌==◌, nat_lt, nat_le, List, [], ◌∷◌, ◌++◌, Option, Some, None, unwrap_or, if◌then◌else◌, length, take, drop, decimal, flat_map, bytes_eq}
 use Rattle.std.specs.List.{join_by, suffix_len}
 use Rattle.std.specs.Char.{digit_char}
@@ -51,7 +51,8 @@ ipv4_text octets = text_where (length octets == 4) (quoted (join_by decimal dot 
 abbrev pub ipv6_text : List ℕ → Option (List ℕ)
 ipv6_text octets = text_where (length octets == 16) (quoted (hex_groups_text (segments_of octets)))
 
--- the octets of a string before the zero octets at their end (RFC 7011, section 6.1.6)
+-- the octets of a string before the zero octets at their end, with which exporters fill fields of a fixed length up.
+-- RFC 7011, section 6.1.6, says nothing of them: to cut them is this project's own rule
 abbrev pub before_end_zeros : List ℕ → List ℕ
 before_end_zeros octets = take (length octets - suffix_len (λ octet. octet == 0) octets) octets
 

@@ -4,7 +4,7 @@ ghost use Rattle.std.specs.Prelude.{◌≡◌};
 use col_base::Text;
 use std::alloc::AllocError;
 
-/// The abstract data type of an element (RFC 7012, section 3.1; the lists of RFC 6313).
+/// The abstract data type of an element (RFC 7012, section 3.1; of the lists RFC 6313, section 4.1).
 #[derive(Clone, Copy, Debug, PartialEq, Eq)]
 pub enum ElementType {
     OctetArray,
