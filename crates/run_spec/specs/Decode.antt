@@ -1,5 +1,4 @@
--- What the arrivals of one input are decoded to: one item for each, in order (RFC 7011, sections 3.3.2, 3.4.3, 8
--- and 9.1).
+-- What the arrivals of one input are decoded to: one item for each, in order (RFC 7011, sections 3.4.3, 8 and 9).
 use Rattle.std.specs.Prelude.{ℕ, ◌≡◌, ◌≢◌, if◌then◌else◌, nat_lt, Bool, true, false, List, [], ◌∷◌, ◌++◌, None, Result, Ok, Err, MatchBool, MatchOption, map}
 use Rattle.std.specs.List.{AllByRecursion}
 use Rattle.col_base.specs.declared.base.SessionKey.{SessionKey}

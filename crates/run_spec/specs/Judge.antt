@@ -1,5 +1,5 @@
 -- Which messages of a session are taken, and what the template records of the taken ones said (RFC 7011,
--- sections 3.1, 8, 8.2 and 9.1). When a domain is crowded out, and when a message is late, is this project's own rule.
+-- sections 8, 8.4 and 9.1). When a domain is crowded out, and when a message is late, is this project's own rule.
 use Rattle.std.specs.Prelude.{ℕ, ◌+◌, ◌==◌, ◌&&◌, ◌||◌, not, if◌then◌else◌, nat_lt, Bool, false, List, [], ◌∷◌, ◌++◌, Result, Ok, Err, fold, map, filter, take, max}
 use Rattle.std.specs.List.{flat_map, list_any}
 use Rattle.col_base.specs.declared.base.SessionKey.{SessionKey}

@@ -1,5 +1,5 @@
--- The messages of a file of one observation domain (RFC 5655, section 7.1): each is decoded after the template
--- records of all messages before it, since there no message is late and no domain is crowded out.
+-- The messages of a file of one observation domain (RFC 5655): each is decoded after the template records of
+-- all messages before it, since there no message is late and no domain is crowded out.
 use Rattle.std.specs.Prelude.{ℕ, List, [], ◌∷◌, ◌++◌}
 use Rattle.col_base.specs.declared.base.SessionKey.{SessionKey}
 use Rattle.col_base.specs.declared.base.Lifetimes.{Lifetimes}
