@@ -1,10 +1,16 @@
 #!/usr/bin/env python3
-"""Writes the example messages: as definitions with what they say, as their proofs, and as IPFIX Files.
+"""Writes the example messages: as definitions with what they say, as their proofs, as constants for tests, and as
+IPFIX Files.
 
-Run at the top of the repository: python3 tools/examples.py && (cd crates/wire_spec && rt fmt)
+Run at the top of the repository: python3 tools/examples.py && (cd crates/wire_spec && rt fmt) &&
+(cd crates/sample_messages && rt fmt). With --compare nothing is written: it tells which files of examples/ and of the
+crates' data/ have other octets than the constant of their name.
 """
 
+import glob
 import os
+import re
+import sys
 
 MESSAGES = {
     "one_flow": (
@@ -61,6 +67,10 @@ MESSAGES = {
         "an options template with a scope field, two octets of padding, and one record",
         "000a0030 00000064 00000000 00000001 00030014 01010002 0001 00950004 000a0004 0000"
         " 0101000c 00000001 00000007",
+    ),
+    "no_sets": (
+        "a message without sets",
+        "000a0010 00000064 00000000 00000001",
     ),
 }
 MESSAGES = {name: (about, bytes.fromhex(text.replace(" ", ""))) for name, (about, text) in MESSAGES.items()}
@@ -210,6 +220,64 @@ use Rattle.wire_spec.specs.Examples.{%s}
     write("crates/wire_spec/proofs/ExampleLemmas.antt", "\n".join(proofs))
 
 
+# Parts of messages that tests name: the message, and its octets from one to another.
+PARTS = {
+    "flow_specifiers": ("the specifiers of the template of one_flow", "one_flow", 24, 36),
+    "flow_record": ("the record of one_flow", "one_flow", 40, 52),
+    "padded_flow_body": ("the record of padded_flow, with the padding", "padded_flow", 40, 55),
+    "two_flows_body": ("both records of two_flows", "two_flows", 40, 64),
+    "name_specifiers": ("the specifier of the template of variable_names", "variable_names", 24, 28),
+    "names_body": ("the two names of variable_names", "variable_names", 32, 42),
+    "repeated_specifiers": ("the specifiers of the template of repeated_element", "repeated_element", 24, 40),
+    "repeated_record": ("the record of repeated_element", "repeated_element", 44, 54),
+    "options_specifiers": ("the specifiers of the options template of options", "options", 26, 34),
+    "options_record": ("the record of options", "options", 40, 48),
+}
+
+
+def literal(name, about, rows):
+    """A constant of these octets, a line for each row."""
+    text = "\\\n".join("".join(f"\\x{octet:02x}" for octet in row) for row in rows if row)
+    return f'/// {about[0].upper()}{about[1:]}.\npub const {name.upper()}: &[u8] = b"{text}";\n'
+
+
+def write_constants():
+    text = ["// Example messages, and parts of them. This file is written by tools/examples.py.\n"]
+    for name, (about, octets) in MESSAGES.items():
+        text.append(literal(name, about, [octets[:16], *sets_of(octets)]))
+    for name, (about, message, start, end) in PARTS.items():
+        text.append(literal(name, about, [MESSAGES[message][1][start:end]]))
+    write("crates/sample_messages/src/messages.rt", "\n".join(text))
+
+    names, parts = list(MESSAGES), list(PARTS)
+    whole = "\n".join(f"    ensures {name} {{ {name.upper()}.now ≡ {name} }}" for name in names)
+    cut = "\n".join(
+        f"    ensures {name} {{ {name.upper()}.now ≡ take {end - start} (drop {start} {message}) }}"
+        for name, (_, message, start, end) in PARTS.items()
+    )
+    write(
+        "crates/sample_messages/src/law.rt",
+        f"""// The constants are the examples of the definitions. This file is written by tools/examples.py.
+ghost use Rattle.std.specs.Prelude.{{◌≡◌, drop, take}};
+ghost use Rattle.wire_spec.specs.Examples.{{{", ".join(names)}}};
+
+use crate::messages::{{
+    {", ".join(name.upper() for name in names + parts)},
+}};
+
+/// Each message has the octets of the example of its name in the definitions.
+pub fn messages_are_those_of_the_definitions()
+{whole}
+{{}}
+
+/// Each part stands in its message.
+pub fn parts_stand_in_their_messages()
+{cut}
+{{}}
+""",
+    )
+
+
 def hundred_flows():
     """Ten messages with ten records each, of templates whose octet counts have 1 to 8 octets."""
 
@@ -250,6 +318,31 @@ def write_files():
         file.write(hundred_flows())
 
 
+def constants():
+    """The octets of each constant of sample_messages, by its name in lower case."""
+    with open("crates/sample_messages/src/messages.rt") as file:
+        found = re.findall(r'pub const (\w+): &\[u8\] =\s*b"([^"]*)"', file.read())
+    return {name.lower(): bytes.fromhex("".join(re.findall(r"\\x(..)", text))) for name, text in found}
+
+
+def differing():
+    """The files whose octets are not those of the constant of their name, and the constants without a file."""
+    there = constants()
+    files = glob.glob("examples/*.ipfix") + glob.glob("crates/*/data/*.ipfix")
+    names = {path: os.path.basename(path).removesuffix(".ipfix") for path in files}
+    for path, name in sorted(names.items()):
+        with open(path, "rb") as file:
+            if name in there and file.read() != there[name]:
+                yield path
+    for name in sorted(set(MESSAGES) - {name for name in names.values() if name in there}):
+        yield name
+
+
 if __name__ == "__main__":
+    if sys.argv[1:] == ["--compare"]:
+        found = list(differing())
+        print("\n".join(f"differs: {what}" for what in found) or "ok")
+        sys.exit(1 if found else 0)
     write_definitions()
+    write_constants()
     write_files()

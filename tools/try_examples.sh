@@ -38,6 +38,7 @@ try hundred_flows 0 100
 try empty_template 0 0
 try withdrawal 0 0
 try data_alone 0 0
+try no_sets 0 0
 try variable_names 2 0
 try repeated_element 2 0
 try options 2 0

@@ -10,9 +10,7 @@ use record_iter::records;
 use std::alloc::AllocError;
 use std::sync::Arc;
 use template_def::Definition;
-
-/// The least ID of Data Sets (RFC 7011, section 3.3.2).
-const DATA_SET: u16 = 256;
+use wire_spec::numbers::LEAST_TEMPLATE_ID;
 
 /// Whether a body is records of a definition, at least one.
 fn has_records(definition: &Definition, body: &[u8]) -> bool
@@ -57,7 +55,7 @@ pub fn plan_data<'a>(
 ) -> Result<(), AllocError>
     ensures { OnOk result (PlansData domains.now domain set.entry.id set.entry.body.now plan.old plan.new) }
 {
-    if set.id < DATA_SET {
+    if set.id < LEAST_TEMPLATE_ID {
         return Ok(());
     }
     let Some(definition) = domains.find(domain, set.id) else {

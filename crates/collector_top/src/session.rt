@@ -10,12 +10,7 @@ use crate::planned::PlannedMessage;
 use col_base::{Octets, WantOfMemory};
 use ipfix_reader::{Message, RawSet, check};
 use std::alloc::Global;
-
-/// The ID of Template Sets (RFC 7011, section 3.3.2).
-const TEMPLATE_SET: u16 = 2;
-
-/// The ID of Options Template Sets.
-const OPTIONS_SET: u16 = 3;
+use wire_spec::numbers::{OPTIONS_TEMPLATE_SET, TEMPLATE_SET};
 
 /// Takes a set of a message: its template records count from now on, and its data records are planned.
 fn take_set<'a>(
@@ -28,7 +23,7 @@ fn take_set<'a>(
     requires { is_kept domains.old domain ≡ true }
     ensures { OnOk result (TakesSet set.entry domain domains.old domains.new plan.old plan.new) }
 {
-    if set.id == TEMPLATE_SET || set.id == OPTIONS_SET {
+    if set.id == TEMPLATE_SET || set.id == OPTIONS_TEMPLATE_SET {
         domains.take_set(alloc, domain, set)?;
         return Ok(());
     }

@@ -14,6 +14,7 @@ use std::alloc::Global;
 use std::collections::BTreeMap;
 use std::sync::Arc;
 use template_def::Definition;
+use wire_spec::numbers::LEAST_TEMPLATE_ID;
 
 /// The valid definitions of one domain, by template ID. Each is well formed.
 #[derive(Drop)]
@@ -96,7 +97,7 @@ impl Templates {
         if raw.count != 0 {
             return self.define(alloc, raw);
         }
-        if raw.id < 256 {
+        if raw.id < LEAST_TEMPLATE_ID {
             self.withdraw_all(raw.kind);
         } else {
             self.withdraw(raw.id);

@@ -14,7 +14,7 @@ pub type Stages = Listed<StageConf>;
 pub type Outputs = Listed<OutputConf>;
 
 /// What a description says.
-#[derive(Drop)]
+#[derive(Clone, Debug, PartialEq, Eq, Drop)]
 pub struct Conf {
     /// How many messages each ring holds, 1 to 4,096.
     pub ring: u16,
@@ -33,7 +33,7 @@ pub struct Conf {
 }
 
 /// An input.
-#[derive(Drop)]
+#[derive(Clone, Debug, PartialEq, Eq, Drop)]
 pub struct InputConf {
     pub spec: InputSpec,
     /// After how many events it ends, up to 2^63 - 1; 0 is no limit.
@@ -45,21 +45,21 @@ pub struct InputConf {
 }
 
 /// An intermediate.
-#[derive(Drop)]
+#[derive(Clone, Debug, PartialEq, Eq, Drop)]
 pub struct StageConf {
     pub name: Text,
     pub work: StageWork,
 }
 
 /// What an intermediate does.
-#[derive(Drop)]
+#[derive(Clone, Debug, PartialEq, Eq, Drop)]
 pub enum StageWork {
     Filter(FilterTable),
     Anonymise(AnonTable),
 }
 
 /// An output.
-#[derive(Drop)]
+#[derive(Clone, Debug, PartialEq, Eq, Drop)]
 pub struct OutputConf {
     pub name: Text,
     pub path: Text,

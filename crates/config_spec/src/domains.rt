@@ -14,7 +14,7 @@ pub struct DomainRange {
 }
 
 /// Of which Observation Domains an output gets the messages (RFC 7011, section 3.1).
-#[derive(Drop)]
+#[derive(Clone, Debug, PartialEq, Eq, Drop)]
 pub enum DomainSet {
     All,
     /// Those in one of the ranges.

@@ -6,7 +6,7 @@ use std::alloc::AllocError;
 
 /// The first fault of a description. A text is the path of a key: names and places from 0, joined by dots,
 /// as in `input.0.kind`.
-#[derive(Drop)]
+#[derive(Clone, Debug, PartialEq, Eq, Drop)]
 pub enum ConfFault {
     NotToml,
     /// The table, or a table of its kind, has no such key.

@@ -1,6 +1,12 @@
 // A list of values.
 ghost use Rattle.std.specs.Prelude.{◌≡◌, length};
+ghost use Rattle.std.specs.List.{AllZip};
+ghost use Rattle.std.specs.Cmp.Lexicographic.{pointwise};
+ghost use Rattle.std.specs.Cmp.Rules.{comparing};
+ghost use Rattle.std.proofs.Common.{rules};
 
+use std::alloc::AllocError;
+use std::fmt;
 use std::marker::Model;
 
 /// Values in order, which contracts see as a list.
@@ -53,4 +59,34 @@ impl<T> Listed<T> {
     {
         self.items.len()
     }
+}
+
+impl<T: Clone> Clone for Listed<T> {
+    ghost is_clone = { λ l m. AllZip T.is_clone l m };
+
+    fn clone(&self) -> Result<Listed<T>, AllocError> {
+        Ok(Listed {
+            items: self.items.clone()?,
+        })
+    }
+}
+
+impl<T: fmt::Debug> fmt::Debug for Listed<T> {
+    fn fmt<W: fmt::Write>(&self, f: &mut fmt::Formatter<W>) -> fmt::Result {
+        self.items.fmt(f)
+    }
+}
+
+impl<T: PartialEq> PartialEq for Listed<T> {
+    ghost eq = { pointwise T.eq };
+
+    ghost laws = { Prim.search (comparing, rules) };
+
+    fn eq(&self, other: &Listed<T>) -> bool {
+        self.items == other.items
+    }
+}
+
+impl<T: Eq> Eq for Listed<T> {
+    ghost laws = { Prim.search (comparing, rules) };
 }

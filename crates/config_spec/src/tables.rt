@@ -9,7 +9,7 @@ pub type Pairs = Listed<Pair>;
 pub type AnonRows = Listed<AnonRow>;
 
 /// The rules of a filter. The first rule that matches a record decides; if none does, the default does.
-#[derive(Drop)]
+#[derive(Clone, Debug, PartialEq, Eq, Drop)]
 pub struct FilterTable {
     /// At most 1,024.
     pub rules: Rules,
@@ -17,7 +17,7 @@ pub struct FilterTable {
 }
 
 /// A rule: it matches a record with a field of this element that passes the test.
-#[derive(Drop)]
+#[derive(Clone, Debug, PartialEq, Eq, Drop)]
 pub struct Rule {
     pub pen: u32,
     /// Below 32768.
@@ -28,7 +28,7 @@ pub struct Rule {
 }
 
 /// What a value has to be. Numbers are up to 2^63 - 1.
-#[derive(Drop)]
+#[derive(Clone, Debug, PartialEq, Eq, Drop)]
 pub enum Test {
     Present,
     Equal(u64),
@@ -38,7 +38,7 @@ pub enum Test {
 }
 
 /// An address and how many of its first bits count. The others are 0.
-#[derive(Drop)]
+#[derive(Clone, Debug, PartialEq, Eq, Drop)]
 pub struct Prefix {
     /// 4 or 16.
     pub octets: Octets,
@@ -47,7 +47,7 @@ pub struct Prefix {
 }
 
 /// What an anonymiser changes: the addresses in the fields of these elements.
-#[derive(Drop)]
+#[derive(Clone, Debug, PartialEq, Eq, Drop)]
 pub struct AnonTable {
     /// 1 to 64.
     pub fields: Pairs,
@@ -60,14 +60,14 @@ pub struct AnonTable {
 }
 
 /// An element, by its enterprise number and its ID, which is below 32768.
-#[derive(Clone, Copy, Debug, PartialEq, Eq, Drop)]
+#[derive(Clone, Copy, Debug, PartialEq, Eq, PartialOrd, Ord, Hash, Drop)]
 pub struct Pair {
     pub pen: u32,
     pub id: u16,
 }
 
 /// The bits that stand in place of a prefix.
-#[derive(Drop)]
+#[derive(Clone, Debug, PartialEq, Eq, Drop)]
 pub struct AnonRow {
     pub from: Prefix,
     /// As many octets as the prefix has.

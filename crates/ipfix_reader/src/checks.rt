@@ -8,6 +8,7 @@ use crate::items::check_row;
 use crate::message::{Message, sets_of};
 use crate::set_rules::SetsInMessage;
 use col_base::be16;
+use wire_spec::numbers::{MESSAGE_HEADER, VERSION};
 use wire_spec::{Malformed, MalformedKind};
 
 /// The first rule that the header breaks.
@@ -15,13 +16,13 @@ fn header_fault(octets: &[u8]) -> Option<Malformed>
     ensures fault { result ≡ first_broken header_rules octets.now }
     ensures front { IfNone result ((16 ≤ length octets.now) × (length octets.now < 2 ^ 16)) }
 {
-    if octets.len() < 16 {
+    if octets.len() < MESSAGE_HEADER {
         return Some(Malformed {
             kind: MalformedKind::Short,
             at: 0,
         });
     }
-    if be16(octets, 0) != 10 {
+    if be16(octets, 0) != VERSION {
         return Some(Malformed {
             kind: MalformedKind::Version,
             at: 0,
@@ -49,7 +50,7 @@ pub fn check(octets: &[u8]) -> Result<Message<'_>, Malformed>
         Ok(()) => Ok(Message::new(octets)),
         Err(fault) => Err(Malformed {
             kind: fault.kind,
-            at: 16 + fault.at,
+            at: MESSAGE_HEADER as u32 + fault.at,
         }),
     }
 }

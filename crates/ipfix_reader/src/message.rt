@@ -9,6 +9,7 @@ use crate::raw::RawSet;
 use crate::set_walk::Sets;
 use crate::template_walk::TemplateRecords;
 use col_base::{Kind, be16, be32};
+use wire_spec::numbers::{MESSAGE_HEADER, TEMPLATE_SET};
 
 /// A message, which borrows its octets.
 #[derive(Clone, Copy)]
@@ -33,7 +34,7 @@ pub(crate) fn sets_of(octets: &[u8]) -> &[u8]
     requires { 16 ≤ length octets.now }
     ensures { result.now ≡ drop 16 octets.now }
 {
-    &octets[16..]
+    &octets[MESSAGE_HEADER..]
 }
 
 impl<'a> Message<'a> {
@@ -69,7 +70,7 @@ impl<'a> Message<'a> {
         ensures at { place_of result ≡ 16 }
         ensures rest { sets_left result ≡ drop 16 (octets_of self.now) }
     {
-        Sets::new(sets_of(self.octets), 16)
+        Sets::new(sets_of(self.octets), MESSAGE_HEADER as u32)
     }
 }
 
@@ -79,7 +80,7 @@ pub fn template_records(set: RawSet<'_>) -> TemplateRecords<'_>
     ensures rest { templates_left result ≡ set.entry.body.now }
     ensures kind { kind_of set.entry.id ≡ Some (kind_left result) }
 {
-    if set.id == 2 {
+    if set.id == TEMPLATE_SET {
         TemplateRecords::new(Kind::Template, set.body)
     } else {
         TemplateRecords::new(Kind::Options, set.body)

@@ -6,6 +6,7 @@ ghost use Rattle.wire_spec.specs.declared.malformed.MalformedKind.TheVariants.{S
 use crate::items::{Items, check_row};
 use crate::template_rules::TemplatesInSet;
 use col_base::{Kind, be16};
+use wire_spec::numbers::{OPTIONS_TEMPLATE_SET, SET_HEADER, TEMPLATE_SET};
 use wire_spec::{Malformed, MalformedKind};
 
 /// The sets of a message.
@@ -17,8 +18,8 @@ fn kind_of(id: u16) -> Option<Kind>
     ensures { result ≡ kind_of id }
 {
     match id {
-        2 => Some(Kind::Template),
-        3 => Some(Kind::Options),
+        TEMPLATE_SET => Some(Kind::Template),
+        OPTIONS_TEMPLATE_SET => Some(Kind::Options),
         _ => None,
     }
 }
@@ -41,11 +42,11 @@ fn size_of(octets: &[u8]) -> Option<usize>
     ensures { MatchOption result (first_broken set_rules octets.now ≡ Some (record { kind = SetLength; at = 0 }))
         (λ size. (first_broken set_rules octets.now ≡ None) × (size ≡ set_size octets.now) × (4 ≤ size) × (size ≤ length octets.now)) }
 {
-    if octets.len() < 4 {
+    if octets.len() < SET_HEADER {
         return None;
     }
     let size = be16(octets, 2) as usize;
-    if size < 4 || octets.len() < size {
+    if size < SET_HEADER || octets.len() < size {
         return None;
     }
     Some(size)
@@ -59,7 +60,7 @@ fn body_of(octets: &[u8], size: usize) -> &[u8]
     ensures short { length result.now + 4 ≤ length octets.now }
 {
     let set = &octets[..size];
-    &set[4..]
+    &set[SET_HEADER..]
 }
 
 impl Items for SetsInMessage {
@@ -84,7 +85,7 @@ impl Items for SetsInMessage {
             Ok(()) => Ok(size),
             Err(fault) => Err(Malformed {
                 kind: fault.kind,
-                at: 4 + fault.at,
+                at: SET_HEADER as u32 + fault.at,
             }),
         }
     }

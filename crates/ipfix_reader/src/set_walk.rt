@@ -7,6 +7,7 @@ ghost use Rattle.ipfix_reader.specs.Walk.{AreSomeSets, IsSized, GivesSet};
 
 use crate::raw::RawSet;
 use col_base::be16;
+use wire_spec::numbers::SET_HEADER;
 
 /// Goes over the sets of a message, in order. It has what is left of the message, and its place there.
 #[derive(Drop)]
@@ -49,7 +50,7 @@ fn body_of(set: &[u8]) -> &[u8]
     requires { 4 ≤ length set.now }
     ensures { result.now ≡ drop 4 set.now }
 {
-    &set[4..]
+    &set[SET_HEADER..]
 }
 
 impl<'a> Iterator for Sets<'a> {

@@ -8,6 +8,10 @@ ghost use Rattle.wire_spec.proofs.TemplateLemmas.{at_start};
 
 use crate::items::{Items, behind};
 use col_base::{Kind, be16};
+use wire_spec::numbers::{
+    ENTERPRISE_BIT, ENTERPRISE_SPECIFIER, LEAST_TEMPLATE_ID, OPTIONS_TEMPLATE_HEADER,
+    OPTIONS_TEMPLATE_SET, SPECIFIER, TEMPLATE_HEADER, TEMPLATE_SET, VARIABLE_LENGTH,
+};
 use wire_spec::{Malformed, MalformedKind};
 
 /// The template records of one kind, in a set.
@@ -21,8 +25,8 @@ fn set_id(kind: Kind) -> u16
     ensures { result ≡ set_id kind }
 {
     match kind {
-        Kind::Template => 2,
-        Kind::Options => 3,
+        Kind::Template => TEMPLATE_SET,
+        Kind::Options => OPTIONS_TEMPLATE_SET,
     }
 }
 
@@ -31,8 +35,8 @@ pub fn front(kind: Kind) -> usize
     ensures { result ≡ front kind }
 {
     match kind {
-        Kind::Template => 4,
-        Kind::Options => 6,
+        Kind::Template => TEMPLATE_HEADER,
+        Kind::Options => OPTIONS_TEMPLATE_HEADER,
     }
 }
 
@@ -47,7 +51,7 @@ fn all_zeros(octets: &[u8]) -> bool
 pub fn is_padding(octets: &[u8]) -> bool
     ensures { result ≡ is_padding octets.now }
 {
-    if octets.len() < 4 {
+    if octets.len() < TEMPLATE_HEADER {
         return true;
     }
     all_zeros(octets)
@@ -59,7 +63,7 @@ fn has_low_id(kind: Kind, octets: &[u8]) -> bool
     ensures { result ≡ has_low_id kind octets.now }
 {
     let id = be16(octets, 0);
-    id < 256 && (be16(octets, 2) != 0 || id != set_id(kind))
+    id < LEAST_TEMPLATE_ID && (be16(octets, 2) != 0 || id != set_id(kind))
 }
 
 /// Whether the scope count runs over the end.
@@ -69,7 +73,7 @@ fn cuts_scope(kind: Kind, octets: &[u8]) -> bool
 {
     match kind {
         Kind::Template => false,
-        Kind::Options => be16(octets, 2) != 0 && octets.len() < 6,
+        Kind::Options => be16(octets, 2) != 0 && octets.len() < OPTIONS_TEMPLATE_HEADER,
     }
 }
 
@@ -97,7 +101,11 @@ fn specifier_size(octets: &[u8]) -> usize
     requires { 2 ≤ length octets.now }
     ensures { result ≡ specifier_size octets.now }
 {
-    if be16(octets, 0) < 32768 { 4 } else { 8 }
+    if be16(octets, 0) < ENTERPRISE_BIT {
+        SPECIFIER
+    } else {
+        ENTERPRISE_SPECIFIER
+    }
 }
 
 /// The fewest octets of a field of this length.
@@ -105,7 +113,11 @@ fn least_of(len: u16) -> u32
     ensures is { result ≡ least_of len }
     ensures small { result ≤ 65535 }
 {
-    if len == 65535 { 1 } else { u32::from(len) }
+    if len == VARIABLE_LENGTH {
+        1
+    } else {
+        u32::from(len)
+    }
 }
 
 /// The octets of so many specifiers, and the shortest record. None exactly where they run over the end.
@@ -119,7 +131,7 @@ fn specifiers(count: u16, octets: &[u8]) -> Option<(usize, u32)>
     let mut size = 0;
     let mut least = 0;
     while left > 0 {
-        if rest.len() < 4 {
+        if rest.len() < SPECIFIER {
             return None;
         }
         let first = specifier_size(rest);
@@ -174,7 +186,7 @@ pub fn template_record(kind: Kind, octets: &[u8]) -> Result<usize, Malformed>
         return Err(at_start(MalformedKind::TemplateId));
     }
     if be16(octets, 2) == 0 {
-        return Ok(4);
+        return Ok(TEMPLATE_HEADER);
     }
     if cuts_scope(kind, octets) {
         return Err(at_start(MalformedKind::FieldCut));

@@ -8,6 +8,7 @@ ghost use Rattle.ipfix_reader.specs.Walk.{AreSomeTemplates, GivesTemplate};
 use crate::raw::RawTemplate;
 use crate::template_rules::{front, is_padding, template_record};
 use col_base::{Kind, be16};
+use wire_spec::numbers::TEMPLATE_HEADER;
 
 /// Goes over the template records of a set, in order, up to its padding. It has what is left of the body.
 #[derive(Drop)]
@@ -68,7 +69,7 @@ fn specifiers_of(kind: Kind, octets: &[u8]) -> &[u8]
     ensures { result.now ≡ (if defines octets.now then drop (front kind) octets.now else []) }
 {
     if be16(octets, 2) == 0 {
-        return &octets[4..];
+        return &octets[TEMPLATE_HEADER..];
     }
     &octets[front(kind)..]
 }

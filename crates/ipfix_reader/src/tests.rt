@@ -7,6 +7,7 @@ ghost use Rattle.ipfix_reader.specs.DefinedIds.{ids_of, defined_ids};
 
 use super::*;
 use col_base::Kind;
+use sample_messages::ONE_FLOW;
 use std::alloc::{AllocError, Global};
 use std::process::Abort;
 use std::test::Fail;
@@ -421,10 +422,7 @@ fn the_longest_message_is_checked(rt: HostRuntime) -> Result<(), AllocError> {
 
 #[test]
 fn a_flow_that_is_cut_or_turned_is_malformed(rt: HostRuntime) -> Result<(), AllocError> {
-    let mut flow = octets_of(
-        rt.alloc(),
-        "000a0034 00000064 00000000 00000001 00020014 01000003 00080004 000c0004 00010004 01000010 0a000001 0a000002 000003e8",
-    )?;
+    let mut flow = ONE_FLOW.to_vec(rt.alloc())?;
     assert_eq!(rt; counts_of(&flow), Ok((1, 0)));
     let cuts = [(15, broken(Short, 0)), (51, broken(Length, 2))];
     for (size, fault) in cuts {

@@ -5,9 +5,10 @@ ghost use Rattle.wire_spec.specs.Record.{IsEncoded, IsSomeRecord};
 ghost use Rattle.wire_spec.specs.Size.{value_size};
 ghost use Rattle.record_iter.specs.Walk.{BeginsValue, GivesField};
 
-use crate::size::{LONG, VARIES, value_size};
+use crate::size::value_size;
 use crate::value::FieldValue;
 use wire_spec::FieldSpec;
+use wire_spec::numbers::{LONG_LENGTH, LONG_LENGTH_OCTETS, VARIABLE_LENGTH};
 
 /// The value in the octets of a field: behind its length in one octet or in three, where that varies.
 fn value_in(len: u16, octets: &[u8]) -> &[u8]
@@ -15,13 +16,13 @@ fn value_in(len: u16, octets: &[u8]) -> &[u8]
     ensures is { IsEncoded len octets.now result.now }
     ensures shorter { length result.now ≤ length octets.now }
 {
-    if len != VARIES {
+    if len != VARIABLE_LENGTH {
         return octets;
     }
-    if octets[0] < LONG {
+    if octets[0] < LONG_LENGTH {
         return &octets[1..];
     }
-    &octets[3..]
+    &octets[LONG_LENGTH_OCTETS..]
 }
 
 /// The value of the first field, and what follows it.

@@ -4,12 +4,7 @@ ghost use Rattle.wire_spec.specs.Size.{fits, value_size, variable_size, record_s
 
 use col_base::be16;
 use wire_spec::FieldSpec;
-
-/// The length of a field whose values differ in length.
-pub const VARIES: u16 = 65535;
-
-/// The octet that stands before a length in two octets.
-pub const LONG: u8 = 255;
+use wire_spec::numbers::{LONG_LENGTH, LONG_LENGTH_OCTETS, VARIABLE_LENGTH};
 
 /// So many octets, if they are there.
 fn fits(count: usize, octets: &[u8]) -> Option<usize>
@@ -29,20 +24,20 @@ fn variable_size(octets: &[u8]) -> Option<usize>
         return None;
     }
     let first = octets[0];
-    if first < LONG {
+    if first < LONG_LENGTH {
         return fits(1 + first as usize, octets);
     }
-    if octets.len() < 3 {
+    if octets.len() < LONG_LENGTH_OCTETS {
         return None;
     }
-    fits(3 + be16(octets, 1) as usize, octets)
+    fits(LONG_LENGTH_OCTETS + be16(octets, 1) as usize, octets)
 }
 
 /// The octets of the value that begins here, by its field's length. None exactly where it is cut.
 pub fn value_size(len: u16, octets: &[u8]) -> Option<usize>
     ensures { result ≡ value_size len octets.now }
 {
-    if len == VARIES {
+    if len == VARIABLE_LENGTH {
         variable_size(octets)
     } else {
         fits(len as usize, octets)

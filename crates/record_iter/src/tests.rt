@@ -5,6 +5,10 @@ ghost use Rattle.record_iter.specs.Shown.{Placed, row_of, values_of, AreRowsOf};
 
 use super::*;
 use col_base::Kind;
+use sample_messages::{
+    FLOW_RECORD, FLOW_SPECIFIERS, NAME_SPECIFIERS, NAMES_BODY, OPTIONS_RECORD, OPTIONS_SPECIFIERS,
+    PADDED_FLOW_BODY, REPEATED_RECORD, REPEATED_SPECIFIERS, TWO_FLOWS_BODY,
+};
 use std::alloc::{AllocError, Global};
 use std::test::Fail;
 use template_def::{Definition, well_formed};
@@ -54,34 +58,6 @@ fn definition_of(alloc: Global, kind: Kind, scope: u16, specs: &[u8]) -> Option<
     Definition::read(alloc, kind, scope, specs).ok()
 }
 
-/// Two addresses and a count; one field that varies; a count, a field of another enterprise, and a count; a scope field
-/// and another.
-const FLOW: [u8; 12] = [0, 8, 0, 4, 0, 12, 0, 4, 0, 1, 0, 4];
-
-const NAME: [u8; 4] = [0, 82, 255, 255];
-
-const AROUND: [u8; 16] = [0, 1, 0, 4, 0x80, 7, 0, 2, 0, 0, 0, 9, 0, 1, 0, 4];
-
-const INTERFACE: [u8; 8] = [0, 149, 0, 4, 0, 10, 0, 4];
-
-/// A record of two addresses and a count.
-const ONE_FLOW: [u8; 12] = [10, 0, 0, 1, 10, 0, 0, 2, 0, 0, 3, 232];
-
-/// The same with three octets of padding, and twice.
-const PADDED_FLOW: [u8; 15] = [10, 0, 0, 1, 10, 0, 0, 2, 0, 0, 3, 232, 0, 0, 0];
-
-const TWO_FLOWS: [u8; 24] = [
-    10, 0, 0, 1, 10, 0, 0, 2, 0, 0, 3, 232, 10, 0, 0, 1, 10, 0, 0, 2, 0, 0, 3, 232,
-];
-
-/// Records of the last two.
-const AROUND_RECORD: [u8; 10] = [0, 0, 0, 5, 0xab, 0xcd, 0, 0, 0, 6];
-
-const INTERFACE_RECORD: [u8; 8] = [0, 0, 0, 1, 0, 0, 0, 7];
-
-/// `abc` behind its length in one octet, and in three.
-const NAMES: [u8; 10] = [3, 97, 98, 99, 255, 0, 3, 97, 98, 99];
-
 #[test]
 fn records_are_walked_over(rt: HostRuntime) -> Result<(), Fail> {
     let flow: [usize; 36] = [
@@ -89,28 +65,34 @@ fn records_are_walked_over(rt: HostRuntime) -> Result<(), Fail> {
         0, 2, 8, 4, 0, 0, 3, 232,
     ];
     let table: [(Kind, u16, &[u8], &[u8], &[usize]); 6] = [
-        (Kind::Template, 0, &FLOW, &ONE_FLOW, &flow[..18]),
-        (Kind::Template, 0, &FLOW, &PADDED_FLOW, &flow[..18]),
-        (Kind::Template, 0, &FLOW, &TWO_FLOWS, &flow),
+        (Kind::Template, 0, FLOW_SPECIFIERS, FLOW_RECORD, &flow[..18]),
         (
             Kind::Template,
             0,
-            &NAME,
-            &NAMES,
+            FLOW_SPECIFIERS,
+            PADDED_FLOW_BODY,
+            &flow[..18],
+        ),
+        (Kind::Template, 0, FLOW_SPECIFIERS, TWO_FLOWS_BODY, &flow),
+        (
+            Kind::Template,
+            0,
+            NAME_SPECIFIERS,
+            NAMES_BODY,
             &[1, 3, 97, 98, 99, 3, 3, 97, 98, 99],
         ),
         (
             Kind::Template,
             0,
-            &AROUND,
-            &AROUND_RECORD,
+            REPEATED_SPECIFIERS,
+            REPEATED_RECORD,
             &[0, 4, 0, 0, 0, 5, 4, 2, 0xab, 0xcd, 6, 4, 0, 0, 0, 6],
         ),
         (
             Kind::Options,
             1,
-            &INTERFACE,
-            &INTERFACE_RECORD,
+            OPTIONS_SPECIFIERS,
+            OPTIONS_RECORD,
             &[0, 4, 0, 0, 0, 1, 4, 4, 0, 0, 0, 7],
         ),
     ];
@@ -124,7 +106,7 @@ fn records_are_walked_over(rt: HostRuntime) -> Result<(), Fail> {
 
 #[test]
 fn bodies_of_one_varying_field(rt: HostRuntime) -> Result<(), Fail> {
-    let def = definition_of(rt.alloc(), Kind::Template, 0, &NAME).ok_or("no definition")?;
+    let def = definition_of(rt.alloc(), Kind::Template, 0, NAME_SPECIFIERS).ok_or("no definition")?;
     let table: [(&[u8], Option<&[usize]>); 7] = [
         (&[255], None),
         (&[255, 0, 1], None),

@@ -9,18 +9,13 @@ use Rattle.wire_spec.specs.declared.field.FieldSpec.{FieldSpec}
 use Rattle.wire_spec.specs.Message.{front, specifier_size, specifiers_size, shortest_of_specifiers, least_of}
 use Rattle.wire_spec.specs.Record.{shortest}
 use Rattle.wire_spec.specs.Content.{Definition, fields_of}
-use Rattle.wire_spec.specs.Specifiers.{DefineRecords, AreWellFormed, IsField, specifiers}
+use Rattle.wire_spec.specs.Specifiers.{DefineRecords, AreWellFormed, IsField, IsReadBack, specifiers}
 use Rattle.wire_spec.proofs.DefinitionLemmas.{fields_count, shortest_of_fields}
 use Rattle.wire_spec.proofs.SpecifierLemmas.{sizes_least, one_count}
-use Rattle.wire_spec.proofs.WrittenLemmas.{written_shorter, written_define, written_same}
-use Rattle.template_def.specs.Kept.{IsKept, IsReadBack}
+use Rattle.wire_spec.proofs.WrittenLemmas.{written_shorter, read_back as fields_read_back}
+use Rattle.template_def.specs.Kept.{IsKept}
 use Rattle.template_def.specs.Walk.{BeginsField}
 use Rattle.template_def.proofs.WalkLemmas.{first_left}
-
--- one more field with what each has
-pub each_more : (P : FieldSpec → Type 0) (fields : List FieldSpec) (field : FieldSpec) → AllByRecursion P fields → P field → AllByRecursion P (fields ++ field ∷ [])
-each_more P [] field each p = (p, tt)
-each_more P (f ∷ fields) field each p = (each.0, each_more P fields field each.1 p)
 
 -- so many specifiers are left, and their fields are still to come
 abbrev pub FieldsLeft : List FieldSpec → List FieldSpec → List ℕ → Type 0
@@ -71,10 +66,7 @@ definition_kept kind scope count specs fields d short is each =
 
 -- What is written of a definition reads back.
 pub read_back : (definition : Definition) → IsKept definition → IsReadBack definition
-read_back d k = record {
-  define = written_define d.scope d.fields k.fields k.some k.within k.shortest;
-  same = ap (λ (l : List FieldSpec). record d { fields = l }) (written_same d.fields k.fields);
-}
+read_back d k = fields_read_back d k.fields k.some k.within k.shortest
 
 -- a field has an octet where its length isn't 0
 least_some : (len : ℕ) → nat_eq len 0 ≡ false → 0 < least_of len

@@ -5,7 +5,7 @@ use Rattle.wire_spec.specs.Message.{front}
 use Rattle.wire_spec.specs.Record.{shortest}
 use Rattle.wire_spec.specs.Size.{are_fixed}
 use Rattle.wire_spec.specs.Content.{Definition}
-use Rattle.wire_spec.specs.Specifiers.{DefineRecords, defined_by, IsField, specifiers}
+use Rattle.wire_spec.specs.Specifiers.{IsField, specifiers}
 
 -- a definition has a field, no more scope fields than fields, and records with an octet; its specifiers can be
 -- written, and a message of one template record has room for them
@@ -22,11 +22,6 @@ pub record IsStored (definition : Definition) (min_len specs_len : ℕ) (is_fixe
   pub least : min_len ≡ shortest definition.fields
   pub written : specs_len ≡ length (specifiers definition.fields)
   pub fixed : is_fixed ≡ are_fixed definition.fields
-
--- what is written of a definition defines records again, and is the same definition
-pub record IsReadBack (definition : Definition) : Type 0 where
-  pub define : DefineRecords definition.scope (length definition.fields) (specifiers definition.fields)
-  pub same : defined_by definition.kind definition.scope (length definition.fields) (specifiers definition.fields) ≡ definition
 
 -- behind the old octets stands a front of some others
 pub record AppendsFront (old new octets : List ℕ) : Type 0 where

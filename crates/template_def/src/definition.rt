@@ -4,8 +4,8 @@ ghost use Rattle.wire_spec.specs.Message.{front, specifiers_size};
 ghost use Rattle.wire_spec.specs.Record.{shortest};
 ghost use Rattle.wire_spec.specs.Size.{are_fixed};
 ghost use Rattle.wire_spec.specs.WellFormed.{HasScope, IsWellFormed};
-ghost use Rattle.wire_spec.specs.Specifiers.{AreWellFormed, defined_by, specifiers};
-ghost use Rattle.template_def.specs.Kept.{IsKept, IsReadBack, AppendsFront};
+ghost use Rattle.wire_spec.specs.Specifiers.{AreWellFormed, IsReadBack, defined_by, specifiers};
+ghost use Rattle.template_def.specs.Kept.{IsKept, AppendsFront};
 
 use crate::fields::{are_fixed, put_fields, read_fields, shortest, written_len};
 use col_base::{Kind, Octets, WantOfMemory};

@@ -12,9 +12,7 @@ use crate::specifier::{put_specifier, split_field};
 use col_base::Octets;
 use std::alloc::{AllocError, Global};
 use wire_spec::FieldSpec;
-
-/// The length of a field whose values differ in length (RFC 7011, section 7).
-const VARIES: u16 = 65535;
+use wire_spec::numbers::{ENTERPRISE_SPECIFIER, SPECIFIER, VARIABLE_LENGTH};
 
 /// The fields of specifiers.
 pub fn read_fields(alloc: Global, specs: &[u8]) -> Result<Vec<FieldSpec>, AllocError>
@@ -22,7 +20,7 @@ pub fn read_fields(alloc: Global, specs: &[u8]) -> Result<Vec<FieldSpec>, AllocE
     ensures are { IfOk result (λ fields. (count : ℕ) → specifiers_size count specs.now ≡ length specs.now → fields.items ≡ fields_of count specs.now) }
     ensures kept { IfOk result (λ fields. AllByRecursion IsField fields.items) }
 {
-    let mut fields = Vec::with_capacity(alloc, specs.len() / 4)?;
+    let mut fields = Vec::with_capacity(alloc, specs.len() / SPECIFIER)?;
     let mut rest = specs;
     while let Some((field, after)) = split_field(rest) {
         fields.push(field)?;
@@ -36,7 +34,11 @@ fn least_of(len: u16) -> u32
     ensures is { result ≡ least_of len }
     ensures small { result ≤ 65535 }
 {
-    if len == VARIES { 1 } else { u32::from(len) }
+    if len == VARIABLE_LENGTH {
+        1
+    } else {
+        u32::from(len)
+    }
 }
 
 /// The octets of the shortest record.
@@ -56,7 +58,12 @@ fn written_size(field: FieldSpec) -> u32
     ensures is { result ≡ length (specifier field) }
     ensures small { result ≤ 8 }
 {
-    if field.pen == 0 { 4 } else { 8 }
+    let size = if field.pen == 0 {
+        SPECIFIER
+    } else {
+        ENTERPRISE_SPECIFIER
+    };
+    size as u32
 }
 
 /// The octets of the fields' specifiers.
@@ -75,7 +82,7 @@ pub fn written_len(fields: &[FieldSpec]) -> u32
 pub fn are_fixed(fields: &[FieldSpec]) -> bool
     ensures { result ≡ are_fixed fields.now }
 {
-    fields.iter().all(|field| field.len != VARIES)
+    fields.iter().all(|field| field.len != VARIABLE_LENGTH)
 }
 
 /// Appends the specifiers of fields, and where memory is wanted a front of them.

@@ -8,9 +8,7 @@ ghost use Rattle.template_def.specs.Walk.{BeginsField};
 use col_base::{Octets, be16, be32};
 use std::alloc::AllocError;
 use wire_spec::FieldSpec;
-
-/// The enterprise bit in the first two octets of a specifier.
-const ENTERPRISE: u16 = 0x8000;
+use wire_spec::numbers::{ENTERPRISE_BIT, ENTERPRISE_SPECIFIER, SPECIFIER};
 
 /// The field of a specifier.
 fn field_of(octets: &[u8]) -> FieldSpec
@@ -20,14 +18,14 @@ fn field_of(octets: &[u8]) -> FieldSpec
     ensures kept { IsField result }
 {
     let first = be16(octets, 0);
-    let pen = if first < ENTERPRISE {
+    let pen = if first < ENTERPRISE_BIT {
         0
     } else {
         be32(octets, 4)
     };
     FieldSpec {
         pen,
-        id: first % ENTERPRISE,
+        id: first % ENTERPRISE_BIT,
         len: be16(octets, 2),
     }
 }
@@ -37,14 +35,18 @@ fn specifier_size(octets: &[u8]) -> usize
     requires { 2 ≤ length octets.now }
     ensures { result ≡ specifier_size octets.now }
 {
-    if be16(octets, 0) < ENTERPRISE { 4 } else { 8 }
+    if be16(octets, 0) < ENTERPRISE_BIT {
+        SPECIFIER
+    } else {
+        ENTERPRISE_SPECIFIER
+    }
 }
 
 /// The field of the specifier that begins the octets, and what follows it. None exactly where that specifier is cut.
 pub fn split_field(octets: &[u8]) -> Option<(FieldSpec, &[u8])>
     ensures { MatchOption result (length octets.now < specifier_size octets.now) (λ found. BeginsField octets.now found.0 found.1.now) }
 {
-    if octets.len() < 4 {
+    if octets.len() < SPECIFIER {
         return None;
     }
     let size = specifier_size(octets);
@@ -75,7 +77,7 @@ fn put_marked(field: FieldSpec, out: &mut Octets) -> Result<(), AllocError>
     ensures ok { OnOk result (out.new ≡ out.old ++ specifier field) }
     ensures err { OnErr result (out.new ≡ out.old) }
 {
-    let first = ENTERPRISE + field.id;
+    let first = ENTERPRISE_BIT + field.id;
     let above = (field.pen / 65536) as u16;
     let below = (field.pen % 65536) as u16;
     out.extend(&[

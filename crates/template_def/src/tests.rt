@@ -3,6 +3,7 @@ ghost use Rattle.std.specs.Prelude.{◌≡◌, IfOk};
 
 use super::*;
 use col_base::{Kind, Octets, WantOfMemory};
+use sample_messages::{FLOW_SPECIFIERS, NAME_SPECIFIERS, REPEATED_SPECIFIERS};
 use std::alloc::Global;
 use std::test::Fail;
 
@@ -24,15 +25,6 @@ fn definition_of(alloc: Global, kind: Kind, scope: u16, specs: &[u8]) -> Option<
     Definition::read(alloc, kind, scope, specs).ok()
 }
 
-/// Three fields of IANA: two addresses and a count.
-const FLOW: [u8; 12] = [0, 8, 0, 4, 0, 12, 0, 4, 0, 1, 0, 4];
-
-/// A field of another enterprise between two of one element.
-const AROUND: [u8; 16] = [0, 1, 0, 4, 0x80, 7, 0, 2, 0, 0, 0, 9, 0, 1, 0, 4];
-
-/// One field that varies.
-const NAME: [u8; 4] = [0, 82, 255, 255];
-
 /// A field whose specifier has the enterprise bit and the number 0, and the same field without both.
 const MARKED_ZERO: [u8; 8] = [0x80, 7, 0, 2, 0, 0, 0, 0];
 
@@ -42,15 +34,15 @@ const UNMARKED: [u8; 4] = [0, 7, 0, 2];
 fn specifiers_are_judged(rt: HostRuntime) {
     let table: [(u16, &[u8], bool); 13] = [
         (0, &[], false),
-        (0, &FLOW, true),
-        (3, &FLOW, true),
-        (4, &FLOW, false),
-        (0, &FLOW[..11], false),
-        (0, &FLOW[..3], false),
-        (0, &AROUND, true),
-        (4, &AROUND, false),
-        (0, &AROUND[..8], false),
-        (1, &NAME, true),
+        (0, FLOW_SPECIFIERS, true),
+        (3, FLOW_SPECIFIERS, true),
+        (4, FLOW_SPECIFIERS, false),
+        (0, &FLOW_SPECIFIERS[..11], false),
+        (0, &FLOW_SPECIFIERS[..3], false),
+        (0, REPEATED_SPECIFIERS, true),
+        (4, REPEATED_SPECIFIERS, false),
+        (0, &REPEATED_SPECIFIERS[..8], false),
+        (1, NAME_SPECIFIERS, true),
         (0, &[0, 1, 0, 0], false),
         (0, &[0, 1, 0, 0, 0, 2, 0, 0], false),
         (0, &[0, 1, 0, 0, 0, 2, 0, 1], true),
@@ -73,7 +65,9 @@ fn answers(definition: &Definition) -> (Kind, u16, u32, u32, bool) {
 
 #[test]
 fn definitions_are_read(rt: HostRuntime) -> Result<(), Fail> {
-    let around = definition_of(rt.alloc(), Kind::Template, 0, &AROUND).ok_or("no definition")?;
+    let around = definition_of(rt.alloc(), Kind::Template, 0, REPEATED_SPECIFIERS).ok_or(
+        "no definition",
+    )?;
     assert_eq!(rt; answers(&around), (Kind::Template, 0, 10, 16, true));
     let count = FieldSpec {
         pen: 0,
@@ -87,18 +81,20 @@ fn definitions_are_read(rt: HostRuntime) -> Result<(), Fail> {
     };
     assert_eq!(rt; around.fields(), [count, other, count].as_slice());
 
-    let name = definition_of(rt.alloc(), Kind::Options, 1, &NAME).ok_or("no definition")?;
+    let name = definition_of(rt.alloc(), Kind::Options, 1, NAME_SPECIFIERS).ok_or("no definition")?;
     assert_eq!(rt; answers(&name), (Kind::Options, 1, 1, 4, false));
     Ok(())
 }
 
 #[test]
 fn definitions_are_written_and_read_again(rt: HostRuntime) -> Result<(), Fail> {
-    let around = definition_of(rt.alloc(), Kind::Template, 0, &AROUND).ok_or("no definition")?;
+    let around = definition_of(rt.alloc(), Kind::Template, 0, REPEATED_SPECIFIERS).ok_or(
+        "no definition",
+    )?;
     let mut out = Octets::new(rt.alloc());
     assert!(rt; out.push(77).is_ok() && around.put_specs(&mut out).is_ok());
     assert_eq!(rt; out.as_slice().first(), Some(&77));
-    assert_eq!(rt; &out.as_slice()[1..], AROUND.as_slice());
+    assert_eq!(rt; &out.as_slice()[1..], REPEATED_SPECIFIERS);
     assert!(rt; read_again(rt.alloc(), &around).ok() == Some(around));
     Ok(())
 }
@@ -116,13 +112,13 @@ fn an_enterprise_number_of_zero_is_none(rt: HostRuntime) -> Result<(), Fail> {
 
 #[test]
 fn definitions_differ_by_kind_scope_and_fields(rt: HostRuntime) {
-    let flow = definition_of(rt.alloc(), Kind::Options, 1, &FLOW);
+    let flow = definition_of(rt.alloc(), Kind::Options, 1, FLOW_SPECIFIERS);
     let table: [(Kind, u16, &[u8], bool); 5] = [
-        (Kind::Options, 1, &FLOW, true),
-        (Kind::Template, 1, &FLOW, false),
-        (Kind::Options, 2, &FLOW, false),
-        (Kind::Options, 1, &AROUND, false),
-        (Kind::Options, 1, &FLOW[..8], false),
+        (Kind::Options, 1, FLOW_SPECIFIERS, true),
+        (Kind::Template, 1, FLOW_SPECIFIERS, false),
+        (Kind::Options, 2, FLOW_SPECIFIERS, false),
+        (Kind::Options, 1, REPEATED_SPECIFIERS, false),
+        (Kind::Options, 1, &FLOW_SPECIFIERS[..8], false),
     ];
     for (kind, scope, specs, same) in table {
         assert_eq!(rt; flow == definition_of(rt.alloc(), kind, scope, specs), same);

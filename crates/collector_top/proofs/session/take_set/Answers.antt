@@ -7,4 +7,4 @@ returns-then-set-eq-TEMPLATE_SET c =
     takes_templates c.args.set c.args.domain c.args.domains.now c.take_set.new.self c.args.plan.now t.0 c.requires t.1 t.2
 
 pub returns : goal.returns
-returns c = takes_data c.args.set c.args.domain c.args.domains.now c.args.plan.now c.plan_data.new.plan c.requires c.if-set-eq-TEMPLATE_SET.false c.if-set-eq-OPTIONS_SET.false c.in_ok-plan_data.ensures
+returns c = takes_data c.args.set c.args.domain c.args.domains.now c.args.plan.now c.plan_data.new.plan c.requires c.if-set-eq-TEMPLATE_SET.false c.if-set-eq-OPTIONS_TEMPLATE_SET.false c.in_ok-plan_data.ensures

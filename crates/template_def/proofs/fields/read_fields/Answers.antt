@@ -1,6 +1,7 @@
-use Rattle.template_def.proofs.ReadLemmas.{each_more, left_more, left_none}
+use Rattle.template_def.proofs.ReadLemmas.{left_more, left_none}
 use Rattle.wire_spec.specs.Content.{fields_of}
 use Rattle.wire_spec.specs.Specifiers.{IsField}
+use Rattle.wire_spec.proofs.RowLemmas.{items_more}
 use Rattle.template_def.proofs.fields.read_fields.Goals as goal
 
 pub loop-field-preserved : goal.loop-field-preserved
@@ -9,7 +10,7 @@ loop-field-preserved c =
     let b = c.in-Some.ensures in
     rw c.in_ok-push.ensures.items (record {
       left = λ count e. left_more (fields_of count c.args.specs.now) c.loop-field.fields.items c.loop-field.rest.now c.in-Some.after.now c.in-Some.field (i.left count e) b;
-      kept = each_more IsField c.loop-field.fields.items c.in-Some.field i.kept b.kept;
+      kept = items_more IsField c.loop-field.fields.items c.in-Some.field i.kept b.kept;
     })
 
 pub returns-clause-are : goal.returns-clause-are
