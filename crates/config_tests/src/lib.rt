@@ -1,17 +1,7 @@
-//! Tests of descriptions: each key's range from both sides, the order of faults, and the values that are
-//! read. They stand in a crate of their own, so that `startup_config` needs no second proof.
+//! Tests of the values that descriptions are read to, which no printed line shows. They stand in a crate of their own,
+//! so that `startup_config` needs no second proof. Faults and ranges are tried by the cases of `script_run`.
 #![tactic(auto)]
 
-#[cfg(test)]
-mod keys;
-#[cfg(test)]
-mod lengths;
-#[cfg(test)]
-mod order;
-#[cfg(test)]
-mod printed;
-#[cfg(test)]
-mod sheets;
 #[cfg(test)]
 mod texts;
 #[cfg(test)]
