@@ -42,6 +42,17 @@ pub fn wanted_of(alloc: Global, parts: &[&str]) -> Result<Option<Wanted>, Fault>
     Ok(Some(wanted))
 }
 
+/// The most octets that are told of a difference.
+const TOLD: usize = 400;
+
+/// How many octets there are, and the first of them as a text.
+fn told(alloc: Global, octets: &[u8]) -> Result<String, AllocError> {
+    let count = octets.len();
+    let most = count.min(TOLD);
+    let front = String::from_utf8_lossy(alloc, &octets[..most])?;
+    format!(in alloc; "{count} octets {front:?}")
+}
+
 /// None where octets are those that are wanted, else both.
 fn octets_differ(
     alloc: Global,
@@ -55,9 +66,9 @@ fn octets_differ(
     if found == wanted.as_slice() {
         return Ok(None);
     }
-    let wanted = String::from_utf8_lossy(alloc, wanted.as_slice())?;
-    let found = String::from_utf8_lossy(alloc, found)?;
-    Ok(Some(format!(in alloc; "{what}: expected {wanted:?}, found {found:?}")?))
+    let wanted = told(alloc, wanted.as_slice())?;
+    let found = told(alloc, found)?;
+    Ok(Some(format!(in alloc; "{what}: expected {wanted}, found {found}")?))
 }
 
 /// None where a number is the one that is wanted, else both.
