@@ -9,11 +9,8 @@ use super::*;
 use col_base::Kind;
 use sample_messages::ONE_FLOW;
 use std::alloc::{AllocError, Global};
-use std::process::Abort;
 use std::test::Fail;
-use wire_spec::MalformedKind::{
-    EmptyRecord, FieldCut, Length, ScopeCount, SetLength, Short, TemplateId, Version,
-};
+use wire_spec::MalformedKind::{Length, Short, Version};
 
 /// Adds the IDs that a set defines.
 fn push_ids(set: RawSet<'_>, ids: &mut Vec<u16>) -> Result<(), AllocError>
@@ -71,15 +68,6 @@ fn octets_of(alloc: Global, text: &str) -> Result<Vec<u8>, AllocError> {
     Ok(octets)
 }
 
-/// The first fault of the octets that a text spells, if they are no message.
-fn fault_of(alloc: Global, text: &str) -> Result<Option<Malformed>, AllocError> {
-    let octets = octets_of(alloc, text)?;
-    match check(&octets) {
-        Ok(_) => Ok(None),
-        Err(fault) => Ok(Some(fault)),
-    }
-}
-
 /// How many definitions and how many withdrawals stand in a message, or its first fault.
 fn counts_of(octets: &[u8]) -> Result<(u32, u32), Malformed> {
     let message = check(octets)?;
@@ -103,309 +91,87 @@ fn broken(kind: MalformedKind, at: u32) -> Option<Malformed> {
     Some(Malformed { kind, at })
 }
 
-/// Sees that the octets that a text spells have the fault beside it, or are a message.
-fn have_faults(
-    rt: &impl Abort,
-    alloc: Global,
-    table: &[(&str, Option<Malformed>)],
-) -> Result<(), AllocError> {
-    for (text, fault) in table {
-        assert_eq!(rt; fault_of(alloc, text)?, *fault, "{text}");
+/// What octets are told to be, and the octets in hexadecimal: a message, or the first rule that they break with the place.
+const TOLD: &str = "\
+# a message has sixteen octets
+Short 0: 
+Short 0: 000a0010 00000064 00000000 000000
+message: 000a0010 00000064 00000000 00000001
+# the version is ten
+Version 0: 00090010 00000064 00000000 00000001
+# the length is the number of octets
+Length 2: 000a0011 00000064 00000000 00000001
+Length 2: 000a0010 00000064 00000000 00000001 01000004
+# a set has a header and lies in the message
+SetLength 16: 000a0013 00000064 00000000 00000001 000200
+SetLength 16: 000a0014 00000064 00000000 00000001 00020003
+SetLength 16: 000a0014 00000064 00000000 00000001 00020005
+SetLength 21: 000a0019 00000064 00000000 00000001 0100000500 00ff0003
+message: 000a0018 00000064 00000000 00000001 00ff0004 01000004
+# template ids begin at 256
+TemplateId 20: 000a001c 00000064 00000000 00000001 0002000c 00ff0001 00080004
+TemplateId 20: 000a0018 00000064 00000000 00000001 00020008 00ff0000
+TemplateId 20: 000a0018 00000064 00000000 00000001 00020008 00030000
+TemplateId 20: 000a0018 00000064 00000000 00000001 00030008 00020000
+TemplateId 20: 000a001c 00000064 00000000 00000001 0002000c 00020001 00080004
+message: 000a0018 00000064 00000000 00000001 00020008 00020000
+message: 000a0018 00000064 00000000 00000001 00030008 00030000
+message: 000a0018 00000064 00000000 00000001 00020008 01000000
+# a scope count lies in the set
+FieldCut 20: 000a0018 00000064 00000000 00000001 00030008 01010001
+FieldCut 20: 000a0019 00000064 00000000 00000001 00030009 01010001 00
+# a scope count is from one to the field count
+ScopeCount 20: 000a001e 00000064 00000000 00000001 0003000e 01010001 0000 00080004
+ScopeCount 20: 000a001e 00000064 00000000 00000001 0003000e 01010001 0002 00080004
+message: 000a001e 00000064 00000000 00000001 0003000e 01010001 0001 00080004
+# a specifier lies in the set
+FieldCut 20: 000a001c 00000064 00000000 00000001 0002000c 01000002 00080004
+FieldCut 20: 000a001b 00000064 00000000 00000001 0002000b 01000001 000800
+FieldCut 20: 000a001c 00000064 00000000 00000001 0002000c 01000001 80070002
+message: 000a0020 00000064 00000000 00000001 00020010 01000001 80070002 00000009
+FieldCut 20: 000a0020 00000064 00000000 00000001 00030010 01010002 0001 00080004 8007
+# the shortest record has an octet
+EmptyRecord 20: 000a001c 00000064 00000000 00000001 0002000c 01000001 00010000
+EmptyRecord 20: 000a0020 00000064 00000000 00000001 00020010 01000002 00010000 00020000
+EmptyRecord 20: 000a001e 00000064 00000000 00000001 0003000e 01010001 0001 00080000
+message: 000a0020 00000064 00000000 00000001 00020010 01000002 00010000 0052ffff
+# a fault is at its record
+TemplateId 32: 000a0028 00000064 00000000 00000001 00020018 01000001 00080004 01000000 00ff0001 00080004
+EmptyRecord 34: 000a002a 00000064 00000000 00000001 01000006 ffff 00020014 01000001 00080004 01010001 00010000
+# the first rule that is broken counts
+Version 0: 00090003 00000064 00000000 00000001 000200
+Length 2: 000a0014 00000064 00000000 00000001 000200
+TemplateId 20: 000a001e 00000064 00000000 00000001 0002000c 00ff0001 00010000 00ff
+TemplateId 20: 000a001e 00000064 00000000 00000001 0003000e 00ff0001 0000 00080004
+ScopeCount 20: 000a001e 00000064 00000000 00000001 0003000e 01010001 0000 00080000
+ScopeCount 20: 000a001e 00000064 00000000 00000001 0003000e 01010002 0003 00080004
+FieldCut 20: 000a001c 00000064 00000000 00000001 0002000c 01000002 00010000
+EmptyRecord 20: 000a0020 00000064 00000000 00000001 0002000c 01000001 00010000 01000003
+SetLength 16: 000a0020 00000064 00000000 00000001 01000003 0002000c 00ff0001 00080004
+# padding is short or zeros
+message: 000a001f 00000064 00000000 00000001 0002000f 01000001 00080004 ffffff
+message: 000a0024 00000064 00000000 00000001 00020014 01000001 00080004 00000000 00000000
+TemplateId 28: 000a0020 00000064 00000000 00000001 00020010 01000001 00080004 00000001
+message: 000a0014 00000064 00000000 00000001 00020004
+message: 000a0017 00000064 00000000 00000001 00020007 ffffff
+";
+
+#[test]
+fn octets_have_their_first_fault(rt: HostRuntime) -> Result<(), Fail> {
+    let mut count: u32 = 0;
+    for line in TOLD.lines() {
+        if let Some((told, text)) = line.split_once(": ") {
+            count = count.saturating_add(1);
+            let octets = octets_of(rt.alloc(), text)?;
+            let found = match check(&octets) {
+                Ok(_) => String::from_str(rt.alloc(), "message")?,
+                Err(fault) => format!(in rt.alloc(); "{:?} {}", fault.kind, fault.at)?,
+            };
+            assert_eq!(rt; found.as_str(), told, "{text}");
+        }
     }
+    assert_eq!(rt; count, 49);
     Ok(())
-}
-
-#[test]
-fn a_message_has_sixteen_octets(rt: HostRuntime) -> Result<(), AllocError> {
-    have_faults(
-        &rt,
-        rt.alloc(),
-        &[
-            ("", broken(Short, 0)),
-            ("000a0010 00000064 00000000 000000", broken(Short, 0)),
-            ("000a0010 00000064 00000000 00000001", None),
-        ],
-    )
-}
-
-#[test]
-fn the_version_is_ten(rt: HostRuntime) -> Result<(), AllocError> {
-    have_faults(
-        &rt,
-        rt.alloc(),
-        &[("00090010 00000064 00000000 00000001", broken(Version, 0))],
-    )
-}
-
-#[test]
-fn the_length_is_the_number_of_octets(rt: HostRuntime) -> Result<(), AllocError> {
-    have_faults(
-        &rt,
-        rt.alloc(),
-        &[
-            ("000a0011 00000064 00000000 00000001", broken(Length, 2)),
-            (
-                "000a0010 00000064 00000000 00000001 01000004",
-                broken(Length, 2),
-            ),
-        ],
-    )
-}
-
-#[test]
-fn a_set_has_a_header_and_lies_in_the_message(rt: HostRuntime) -> Result<(), AllocError> {
-    have_faults(
-        &rt,
-        rt.alloc(),
-        &[
-            (
-                "000a0013 00000064 00000000 00000001 000200",
-                broken(SetLength, 16),
-            ),
-            (
-                "000a0014 00000064 00000000 00000001 00020003",
-                broken(SetLength, 16),
-            ),
-            (
-                "000a0014 00000064 00000000 00000001 00020005",
-                broken(SetLength, 16),
-            ),
-            (
-                "000a0019 00000064 00000000 00000001 0100000500 00ff0003",
-                broken(SetLength, 21),
-            ),
-            (
-                "000a0018 00000064 00000000 00000001 00ff0004 01000004",
-                None,
-            ),
-        ],
-    )
-}
-
-#[test]
-fn template_ids_begin_at_256(rt: HostRuntime) -> Result<(), AllocError> {
-    have_faults(
-        &rt,
-        rt.alloc(),
-        &[
-            (
-                "000a001c 00000064 00000000 00000001 0002000c 00ff0001 00080004",
-                broken(TemplateId, 20),
-            ),
-            (
-                "000a0018 00000064 00000000 00000001 00020008 00ff0000",
-                broken(TemplateId, 20),
-            ),
-            (
-                "000a0018 00000064 00000000 00000001 00020008 00030000",
-                broken(TemplateId, 20),
-            ),
-            (
-                "000a0018 00000064 00000000 00000001 00030008 00020000",
-                broken(TemplateId, 20),
-            ),
-            (
-                "000a001c 00000064 00000000 00000001 0002000c 00020001 00080004",
-                broken(TemplateId, 20),
-            ),
-            (
-                "000a0018 00000064 00000000 00000001 00020008 00020000",
-                None,
-            ),
-            (
-                "000a0018 00000064 00000000 00000001 00030008 00030000",
-                None,
-            ),
-            (
-                "000a0018 00000064 00000000 00000001 00020008 01000000",
-                None,
-            ),
-        ],
-    )
-}
-
-#[test]
-fn a_scope_count_lies_in_the_set(rt: HostRuntime) -> Result<(), AllocError> {
-    have_faults(
-        &rt,
-        rt.alloc(),
-        &[
-            (
-                "000a0018 00000064 00000000 00000001 00030008 01010001",
-                broken(FieldCut, 20),
-            ),
-            (
-                "000a0019 00000064 00000000 00000001 00030009 01010001 00",
-                broken(FieldCut, 20),
-            ),
-        ],
-    )
-}
-
-#[test]
-fn a_scope_count_is_from_one_to_the_field_count(rt: HostRuntime) -> Result<(), AllocError> {
-    have_faults(
-        &rt,
-        rt.alloc(),
-        &[
-            (
-                "000a001e 00000064 00000000 00000001 0003000e 01010001 0000 00080004",
-                broken(ScopeCount, 20),
-            ),
-            (
-                "000a001e 00000064 00000000 00000001 0003000e 01010001 0002 00080004",
-                broken(ScopeCount, 20),
-            ),
-            (
-                "000a001e 00000064 00000000 00000001 0003000e 01010001 0001 00080004",
-                None,
-            ),
-        ],
-    )
-}
-
-#[test]
-fn a_specifier_lies_in_the_set(rt: HostRuntime) -> Result<(), AllocError> {
-    have_faults(
-        &rt,
-        rt.alloc(),
-        &[
-            (
-                "000a001c 00000064 00000000 00000001 0002000c 01000002 00080004",
-                broken(FieldCut, 20),
-            ),
-            (
-                "000a001b 00000064 00000000 00000001 0002000b 01000001 000800",
-                broken(FieldCut, 20),
-            ),
-            (
-                "000a001c 00000064 00000000 00000001 0002000c 01000001 80070002",
-                broken(FieldCut, 20),
-            ),
-            (
-                "000a0020 00000064 00000000 00000001 00020010 01000001 80070002 00000009",
-                None,
-            ),
-            (
-                "000a0020 00000064 00000000 00000001 00030010 01010002 0001 00080004 8007",
-                broken(FieldCut, 20),
-            ),
-        ],
-    )
-}
-
-#[test]
-fn the_shortest_record_has_an_octet(rt: HostRuntime) -> Result<(), AllocError> {
-    have_faults(
-        &rt,
-        rt.alloc(),
-        &[
-            (
-                "000a001c 00000064 00000000 00000001 0002000c 01000001 00010000",
-                broken(EmptyRecord, 20),
-            ),
-            (
-                "000a0020 00000064 00000000 00000001 00020010 01000002 00010000 00020000",
-                broken(EmptyRecord, 20),
-            ),
-            (
-                "000a001e 00000064 00000000 00000001 0003000e 01010001 0001 00080000",
-                broken(EmptyRecord, 20),
-            ),
-            (
-                "000a0020 00000064 00000000 00000001 00020010 01000002 00010000 0052ffff",
-                None,
-            ),
-        ],
-    )
-}
-
-#[test]
-fn a_fault_is_at_its_record(rt: HostRuntime) -> Result<(), AllocError> {
-    have_faults(
-        &rt,
-        rt.alloc(),
-        &[
-            (
-                "000a0028 00000064 00000000 00000001 00020018 01000001 00080004 01000000 00ff0001 00080004",
-                broken(TemplateId, 32),
-            ),
-            (
-                "000a002a 00000064 00000000 00000001 01000006 ffff 00020014 01000001 00080004 01010001 00010000",
-                broken(EmptyRecord, 34),
-            ),
-        ],
-    )
-}
-
-#[test]
-fn the_first_rule_that_is_broken_counts(rt: HostRuntime) -> Result<(), AllocError> {
-    have_faults(
-        &rt,
-        rt.alloc(),
-        &[
-            (
-                "00090003 00000064 00000000 00000001 000200",
-                broken(Version, 0),
-            ),
-            (
-                "000a0014 00000064 00000000 00000001 000200",
-                broken(Length, 2),
-            ),
-            (
-                "000a001e 00000064 00000000 00000001 0002000c 00ff0001 00010000 00ff",
-                broken(TemplateId, 20),
-            ),
-            (
-                "000a001e 00000064 00000000 00000001 0003000e 00ff0001 0000 00080004",
-                broken(TemplateId, 20),
-            ),
-            (
-                "000a001e 00000064 00000000 00000001 0003000e 01010001 0000 00080000",
-                broken(ScopeCount, 20),
-            ),
-            (
-                "000a001e 00000064 00000000 00000001 0003000e 01010002 0003 00080004",
-                broken(ScopeCount, 20),
-            ),
-            (
-                "000a001c 00000064 00000000 00000001 0002000c 01000002 00010000",
-                broken(FieldCut, 20),
-            ),
-            (
-                "000a0020 00000064 00000000 00000001 0002000c 01000001 00010000 01000003",
-                broken(EmptyRecord, 20),
-            ),
-            (
-                "000a0020 00000064 00000000 00000001 01000003 0002000c 00ff0001 00080004",
-                broken(SetLength, 16),
-            ),
-        ],
-    )
-}
-
-#[test]
-fn padding_is_short_or_zeros(rt: HostRuntime) -> Result<(), AllocError> {
-    have_faults(
-        &rt,
-        rt.alloc(),
-        &[
-            (
-                "000a001f 00000064 00000000 00000001 0002000f 01000001 00080004 ffffff",
-                None,
-            ),
-            (
-                "000a0024 00000064 00000000 00000001 00020014 01000001 00080004 00000000 00000000",
-                None,
-            ),
-            (
-                "000a0020 00000064 00000000 00000001 00020010 01000001 00080004 00000001",
-                broken(TemplateId, 28),
-            ),
-            ("000a0014 00000064 00000000 00000001 00020004", None),
-            ("000a0017 00000064 00000000 00000001 00020007 ffffff", None),
-        ],
-    )
 }
 
 #[test]

@@ -1,14 +1,6 @@
-//! Tests of whole runs: words, a Site in memory, the status, what was printed and what the sink shows. They stand
-//! in a crate of their own, so that the crates below need no second proof.
+//! A test of a run where memory is wanted. It stands in a crate of its own, so that the crates below need no second
+//! proof. All other whole runs are cases of `script_run`.
 #![tactic(auto)]
 
 #[cfg(test)]
-mod checks;
-#[cfg(test)]
-mod faults;
-#[cfg(test)]
-mod given;
-#[cfg(test)]
-mod messages;
-#[cfg(test)]
-mod runs;
+mod memory;

@@ -1,0 +1,138 @@
+// A file of cases.
+use crate::block::{Block, with_octets};
+use crate::case::Case;
+use crate::fault::Fault;
+use crate::part::parts_of;
+use crate::pieces::Pieces;
+use crate::wanted::wanted_of;
+use std::alloc::Global;
+use std::mem;
+
+/// What was read of a file of cases. A case is played as soon as the next one begins.
+#[derive(Drop)]
+pub struct CaseFile {
+    pieces: Pieces,
+    /// The lines of octets that are being read.
+    block: Option<Block>,
+    /// The case that is being read.
+    case: Option<Case>,
+    cases: u64,
+    failed: u64,
+    told: String,
+}
+
+impl CaseFile {
+    pub fn new(alloc: Global) -> Self {
+        CaseFile {
+            pieces: Pieces::new(alloc),
+            block: None,
+            case: None,
+            cases: 0,
+            failed: 0,
+            told: String::new(alloc),
+        }
+    }
+
+    /// How many cases were played.
+    pub fn cases(&self) -> u64 {
+        self.cases
+    }
+
+    /// How many of them left something else than they are to leave.
+    pub fn failed(&self) -> u64 {
+        self.failed
+    }
+
+    /// A line for each thing that was left otherwise.
+    pub fn told(&self) -> &str {
+        self.told.as_str()
+    }
+
+    /// Takes the next line.
+    pub fn take_line(&mut self, alloc: Global, line: &str) -> Result<(), Fault> {
+        if line.is_empty() || line.starts_with('#') {
+            return Ok(());
+        }
+        if let Some(block) = &mut self.block {
+            if block.takes(alloc, &self.pieces, line)? {
+                return Ok(());
+            }
+        }
+        self.end_block(alloc)?;
+        match Block::begun(alloc, line)? {
+            Some(block) => {
+                self.block = Some(block);
+                Ok(())
+            }
+            None => self.take_plain(alloc, line),
+        }
+    }
+
+    /// Plays the last case.
+    pub fn end(&mut self, alloc: Global) -> Result<(), Fault> {
+        self.end_block(alloc)?;
+        self.end_case(alloc)
+    }
+
+    fn end_block(&mut self, alloc: Global) -> Result<(), Fault> {
+        match mem::replace(&mut self.block, None) {
+            Some(block) => {
+                let line = block.ended(alloc)?;
+                self.take_plain(alloc, line.as_str())
+            }
+            None => Ok(()),
+        }
+    }
+
+    fn end_case(&mut self, alloc: Global) -> Result<(), Fault> {
+        let Some(case) = mem::replace(&mut self.case, None) else {
+            return Ok(());
+        };
+        let differences = case.differences(alloc)?;
+        self.cases = self.cases.saturating_add(1);
+        if !differences.is_empty() {
+            self.failed = self.failed.saturating_add(1);
+            self.told.push_str(differences.as_str())?;
+        }
+        Ok(())
+    }
+
+    /// Takes a line whose octets stand in it, as hexadecimal digits or by the names of pieces.
+    fn take_plain(&mut self, alloc: Global, line: &str) -> Result<(), Fault> {
+        match line.rsplit_once(' ') {
+            Some((front, spelled)) if spelled.contains('@') => {
+                let octets = self.pieces.octets(alloc, spelled)?;
+                let line = with_octets(alloc, front, octets.as_slice())?;
+                self.take_spelled(alloc, line.as_str())
+            }
+            _ => self.take_spelled(alloc, line),
+        }
+    }
+
+    /// Takes a line whose octets stand in it as hexadecimal digits.
+    fn take_spelled(&mut self, alloc: Global, line: &str) -> Result<(), Fault> {
+        if let Some(name) = line.strip_prefix("case ") {
+            self.end_case(alloc)?;
+            self.case = Some(Case::new(alloc, name)?);
+            return Ok(());
+        }
+        let parts = parts_of(alloc, line)?;
+        if let ["piece", name, given] = parts.as_slice() {
+            let octets = crate::part::octets(alloc, given)?;
+            return self.pieces.push(alloc, name, octets);
+        }
+        let Some(case) = &mut self.case else {
+            return Err(Fault::Wrong("a case or a piece is wanted"));
+        };
+        if let Some(wanted) = wanted_of(alloc, parts.as_slice())? {
+            return case.want(wanted);
+        }
+        if let ["words", words @ ..] = parts.as_slice() {
+            for word in words {
+                case.script.push_word(alloc, word)?;
+            }
+            return Ok(());
+        }
+        case.script.take_line(alloc, line)
+    }
+}
