@@ -5,7 +5,7 @@ Each round makes a description out of every table and key, and the element table
 the others one to three things are spoiled: keys are left out, unknown, of another type or just out of their range,
 names, paths and prefixes stand twice, or the text is no TOML. The status and the line of `check` are compared with
 what docs/OPERATING.md and docs/FORMATS.md say of these texts, read here by Python's own tomllib. The first folder that
-differs is kept. It needs Python 3.11.
+differs is kept below the system's folder for temporary files. It needs Python 3.11.
 """
 
 import os
@@ -717,9 +717,8 @@ def main(program, rounds, seed):
             done = subprocess.run([os.path.abspath(program), "check", *words], cwd=folder, capture_output=True, timeout=60)
             wanted = answer_of(name, files)
             if (done.returncode, done.stdout) != wanted:
-                shutil.rmtree("differs", ignore_errors=True)
-                shutil.copytree(folder, "differs")
-                print(f"round {turn}: status {done.returncode} and {done.stdout!r}, wanted {wanted}; the files are in differs/")
+                kept = shutil.copytree(folder, tempfile.mkdtemp(prefix="differs-"), dirs_exist_ok=True)
+                print(f"round {turn}: status {done.returncode} and {done.stdout!r}, wanted {wanted}; the files are in {kept}")
                 return 1
             came[done.returncode] += 1
             lines.add(re.sub(rb"\d+", b"N", done.stdout))

@@ -3,7 +3,8 @@
 
 Each round makes an IPFIX File out of templates, withdrawals, data sets and strange sets of a few domains, most of
 them right; many are then cut or changed in some octets. What `direct` answers and writes is compared with what
-RFC 7011 and docs/FORMATS.md say of the file, read here set by set. The first file that differs is kept.
+RFC 7011 and docs/FORMATS.md say of the file, read here set by set. The first file that differs is kept in the
+system's folder for temporary files.
 """
 
 import random
@@ -288,9 +289,9 @@ def main(program, rounds, seed):
                 written = file.read()
             wanted = answer_of(stream)
             if (done.returncode, done.stdout, written) != wanted:
-                with open("differs.ipfix", "wb") as file:
+                with tempfile.NamedTemporaryFile(prefix="differs-", suffix=".ipfix", delete=False) as file:
                     file.write(stream)
-                print(f"round {turn}: status {done.returncode}, wanted {wanted[0]}; the file is differs.ipfix")
+                print(f"round {turn}: status {done.returncode}, wanted {wanted[0]}; the file is {file.name}")
                 return 1
             came[done.returncode] += 1
             lines += written.count(b"\n")

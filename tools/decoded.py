@@ -4,6 +4,10 @@
 Run at the top of the repository: python3 tools/decoded.py && (cd crates/run_spec && rt fmt)
 """
 
+import sys
+
+sys.dont_write_bytecode = True
+
 from examples import KINDS, MESSAGES, listed, number, paired, sets_of, template_records_of, write
 
 VARIABLE = 65535

@@ -91,6 +91,27 @@ def refused_by_the_system():
         wants("OUT may not be written", ["direct", "flow", "secret"], 4, SINK, **nobody)
 
 
+def one_file(flow, line):
+    """What is read isn't written to, under whatever names."""
+    keep("both", flow)
+    os.symlink("both", "symbolic")
+    os.link("both", "hard")
+    for place in ("both", "symbolic", "hard", "./both"):
+        for out in ("both", "symbolic", "hard", "/proc/self/cwd/both"):
+            wants(f"IN is {place}, and OUT {out}", ["direct", place, out], 4, SINK)
+    with open("both", "rb") as both:
+        wants("IN is standard input, and OUT its file", ["direct", "/dev/stdin", "hard"], 4, SINK, stdin=both)
+    if octets("both") != flow:
+        tell("one file", "IN was changed")
+    with open("shared", "ab") as shared:
+        shared.write(b"what stood there before\n")
+        shared.flush()
+        wants("OUT is standard output, a file", ["direct", "flow", "/dev/stdout"], 0, stdout=shared)
+        shared.write(b"what another wrote\n")
+    if octets("shared") != line + b"what another wrote\n":
+        tell("OUT is standard output, a file", "other lines")
+
+
 def standard_streams(line):
     def without(*numbers):
         return lambda: [os.close(number) for number in numbers]
@@ -124,6 +145,10 @@ def pipes(flow, line):
         wants("IN is a pipe", ["direct", "pipe", "piped"], 0, b"")
     if octets("piped") != line:
         tell("IN is a pipe", "another line")
+    with subprocess.Popen(["sh", "-c", "cat pipe > came"]):
+        wants("OUT is a pipe", ["direct", "flow", "pipe"], 0, b"")
+    if octets("came") != line:
+        tell("OUT is a pipe", "another line")
     body = flow[40:] * 5000
     message = flow[16:36] + (256).to_bytes(2, "big") + (4 + len(body)).to_bytes(2, "big") + body
     message = flow[:2] + (16 + len(message)).to_bytes(2, "big") + flow[4:16] + message
@@ -213,6 +238,7 @@ def main():
         refused_words()
         names(flow, line)
         refused_by_the_system()
+        one_file(flow, line)
         standard_streams(line)
         pipes(flow, line)
         cut_files(examples)

@@ -2,10 +2,14 @@
 #![tactic(auto)]
 
 mod limited;
+mod opening;
 mod real_site;
 mod standard_streams;
 #[cfg(test)]
+mod test_folder;
+#[cfg(test)]
 mod tests;
+mod used_files;
 
 use col_base::WantOfMemory;
 use collector_top::collect_main;

@@ -1,17 +1,21 @@
 // The files of the system as a Site.
 ghost use Rattle.std.specs.Prelude.{◌≡◌, ◌≤◌, ℕ, List, IfOk, length};
 ghost use Rattle.site_io.specs.Tally.{nothing, tally_at};
+ghost use Rattle.ipfixcol.specs.UsedFiles.{AddsText};
 
 use crate::limited::read_limited;
+use crate::opening;
+use crate::used_files::{self, UsedFiles};
 use col_base::{Octets, Transport};
 use site_io::tally::{self, Tallies};
 use site_io::{InputSpec, OutsideFault, ReadSource, Site, WriteSink, count_up, write_piece};
 use std::alloc::Global;
+use std::io;
 use std::rt::Files;
-use std::{fs, io};
 
-/// Texts and sources are files that are read, sinks are files that are made anew, and what is said goes to
-/// standard output. It tells no contents, and counts exactly. What is out can't be opened a second time.
+/// Texts and sources are files that are read, sinks are files that are emptied and appended to, and what is said goes
+/// to standard output. It tells no contents, and counts exactly. What is out can't be opened a second time, and a
+/// regular file that is in use is no sink.
 #[derive(Drop)]
 pub struct RealSite<'a, R: Files + Print> {
     rt: &'a R,
@@ -19,6 +23,7 @@ pub struct RealSite<'a, R: Files + Print> {
     texts: Tallies,
     places: Tallies,
     sinks: Tallies,
+    used: UsedFiles,
     say_faults: u64,
 }
 
@@ -36,19 +41,23 @@ impl<'a, R: Files + Print> RealSite<'a, R> {
             texts: tally::none(alloc),
             places: tally::none(alloc),
             sinks: tally::none(alloc),
+            used: UsedFiles::new(alloc),
             say_faults: 0,
         }
     }
 }
 
-/// The octets of a file.
-fn read_file<R: Files>(rt: &R, alloc: Global, name: &str) -> Result<Octets, OutsideFault>
-    ensures { IfOk result (λ octets. length octets ≤ 16777216) }
+/// The octets of a text, whose file is in use from then on.
+fn read_text<R: Files>(
+    rt: &R,
+    alloc: Global,
+    used: &mut UsedFiles,
+    name: &str,
+) -> Result<Octets, OutsideFault>
+    ensures length { IfOk result (λ octets. length octets ≤ 16777216) }
+    ensures used { AddsText used.old used.new }
 {
-    match fs::open(rt, name) {
-        Ok(file) => read_limited(alloc, file),
-        Err(_) => Err(OutsideFault::Failed),
-    }
+    read_limited(alloc, opening::open_text(rt, used, name)?)
 }
 
 impl<R: Files + Print> Site for RealSite<'_, R>
@@ -59,9 +68,10 @@ where
 
     type Out = WriteSink<R::File>;
 
-    ghost use Rattle.std.specs.Prelude.{None, false};
-    ghost use Rattle.site_io.specs.Seen.{ChangesText, ChangesPlace, ChangesSink, ReadsText, OpensSource, OpensSink};
+    ghost use Rattle.std.specs.Prelude.{◌<◌, None, false, OnOk, OnErr};
+    ghost use Rattle.site_io.specs.Seen.{ChangesText, ChangesPlace, ChangesSink, ReadsText, OpensSource, OpensSink, SourceComesBack, SinkComesBack};
     ghost use Rattle.ipfixcol.specs.RealSite.{real_seen, untold_text, untold_place, untold_sink};
+    ghost use Rattle.ipfixcol.specs.UsedFiles.{AddsSource, AddsSink, SameFiles, ReturnsSource, ReturnsSink};
 
     ghost seen = { λ site. real_seen site.texts site.places site.sinks site.say_faults };
 
@@ -74,9 +84,12 @@ where
 
         // how long a text may be
         ensures length { IfOk result (λ octets. length octets ≤ 16777216) }
+
+        // which files are in use
+        ensures used { AddsText self.old.used self.new.used }
     {
         tally::add(self.alloc, &mut self.texts, name)?;
-        let answer = read_file(self.rt, self.alloc, name);
+        let answer = read_text(self.rt, self.alloc, &mut self.used, name);
         if let Err(OutsideFault::Failed) = &answer {
             tally::refused(&mut self.texts, name);
         }
@@ -94,6 +107,10 @@ where
         // what is opened
         ensures file { IfOk result (λ _. spec.now.transport ≡ Transport.File) }
         ensures was_in { IfOk result (λ _. (tally_at self.old.places spec.now.place).out ≡ false) }
+
+        // which files are in use
+        ensures used { OnOk result (AddsSource spec.now.place self.old.used self.new.used) }
+        ensures unused { OnErr result (SameFiles self.old.used self.new.used) }
     {
         let place = spec.place.as_str();
         tally::add(self.alloc, &mut self.places, place)?;
@@ -101,20 +118,34 @@ where
             tally::refused(&mut self.places, place);
             return Err(OutsideFault::Failed);
         }
-        match fs::open(self.rt, place) {
+        match opening::open_source(self.rt, self.alloc, &mut self.used, place) {
             Ok(file) => {
                 tally::went_out(&mut self.places, place);
                 Ok(ReadSource::new(file))
             }
-            Err(_) => {
+            Err(OutsideFault::Failed) => {
                 tally::refused(&mut self.places, place);
                 Err(OutsideFault::Failed)
             }
+            Err(OutsideFault::NoMemory) => Err(OutsideFault::NoMemory),
         }
     }
 
-    fn back_source(&mut self, spec: &InputSpec, source: ReadSource<R::File>) {
-        tally::came_back(&mut self.places, spec.place.as_str(), source.has_failed());
+    fn back_source(&mut self, spec: &InputSpec, source: ReadSource<R::File>)
+        requires { 0 < ((real_seen self.old.texts self.old.places self.old.sinks self.old.say_faults).place spec.now.place).out }
+
+        // what each Site does
+        ensures back { SourceComesBack (untold_place (tally_at self.old.places spec.now.place)) (untold_place (tally_at self.new.places spec.now.place))
+            None source.faults }
+        ensures others { ChangesPlace spec.now.place (real_seen self.old.texts self.old.places self.old.sinks self.old.say_faults)
+            (real_seen self.new.texts self.new.places self.new.sinks self.new.say_faults) }
+
+        // which files are in use
+        ensures used { ReturnsSource spec.now.place self.old.used self.new.used }
+    {
+        let place = spec.place.as_str();
+        tally::came_back(&mut self.places, place, source.has_failed());
+        used_files::leave_out(&mut self.used.sources, place);
     }
 
     /// Failed is a name whose sink is out, and a file that can't be made.
@@ -127,26 +158,43 @@ where
 
         // what is opened
         ensures was_in { IfOk result (λ _. (tally_at self.old.sinks name.now).out ≡ false) }
+
+        // which files are in use
+        ensures apart { OnOk result (AddsSink name.now self.old.used self.new.used) }
+        ensures unused { OnErr result (SameFiles self.old.used self.new.used) }
     {
         tally::add(self.alloc, &mut self.sinks, name)?;
         if tally::is_out(&self.sinks, name) {
             tally::refused(&mut self.sinks, name);
             return Err(OutsideFault::Failed);
         }
-        match fs::create(self.rt, name) {
+        match opening::open_sink(self.rt, self.alloc, &mut self.used, name) {
             Ok(file) => {
                 tally::went_out(&mut self.sinks, name);
                 Ok(WriteSink::new(file))
             }
-            Err(_) => {
+            Err(OutsideFault::Failed) => {
                 tally::refused(&mut self.sinks, name);
                 Err(OutsideFault::Failed)
             }
+            Err(OutsideFault::NoMemory) => Err(OutsideFault::NoMemory),
         }
     }
 
-    fn back_sink(&mut self, name: &str, sink: WriteSink<R::File>) {
+    fn back_sink(&mut self, name: &str, sink: WriteSink<R::File>)
+        requires { 0 < ((real_seen self.old.texts self.old.places self.old.sinks self.old.say_faults).sink name.now).out }
+
+        // what each Site does
+        ensures back { SinkComesBack (untold_sink (tally_at self.old.sinks name.now)) (untold_sink (tally_at self.new.sinks name.now))
+            None sink.faults }
+        ensures others { ChangesSink name.now (real_seen self.old.texts self.old.places self.old.sinks self.old.say_faults)
+            (real_seen self.new.texts self.new.places self.new.sinks self.new.say_faults) }
+
+        // which files are in use
+        ensures used { ReturnsSink name.now self.old.used self.new.used }
+    {
         tally::came_back(&mut self.sinks, name, sink.has_failed());
+        used_files::leave_out(&mut self.used.sinks, name);
     }
 
     fn say(&mut self, piece: &[u8]) -> Result<(), OutsideFault> {

@@ -77,11 +77,11 @@ values_all {fields} {left} {octets} {rest} {at} {values} more to new h g =
     subst (λ (x : List ℕ). IsRecord fields x values) o (subst (λ (l : List FieldSpec). IsRecord l h.before values) f h.are)
 
 -- a value ends the octets that stand for it
-record IsEnd (octets value : List ℕ) : Type 0 where
-  head : List ℕ
-  whole : octets ≡ head ++ value
+pub record IsEnd (octets value : List ℕ) : Type 0 where
+  pub head : List ℕ
+  pub whole : octets ≡ head ++ value
 
-value_ends : (len : ℕ) (octets value : List ℕ) → IsEncoded len octets value → IsEnd octets value
+pub value_ends : (len : ℕ) (octets value : List ℕ) → IsEncoded len octets value → IsEnd octets value
 value_ends len octets value e = by_test (nat_eq len 65535) e
   where
     by_test : (b : Bool) → MatchBool b (IsShortForm octets value ⊎ IsLongForm octets value) (IsFixed len octets value) → IsEnd octets value

@@ -12,6 +12,7 @@ use sample_messages::{
 use std::alloc::{AllocError, Global};
 use std::test::Fail;
 use template_def::{Definition, well_formed};
+use wire_spec::FieldSpec;
 
 /// Adds the row of a value: its place, its length, and its octets.
 fn push_value(field: FieldValue<'_>, rows: &mut Vec<usize>) -> Result<(), AllocError>
@@ -120,5 +121,44 @@ fn bodies_of_one_varying_field(rt: HostRuntime) -> Result<(), Fail> {
         let rows = rows_of(rt.alloc(), &def, body).ok().ok_or("no memory")?;
         assert_eq!(rt; rows.as_deref(), want);
     }
+    Ok(())
+}
+
+#[test]
+fn a_value_has_a_place(rt: HostRuntime) {
+    let table: [(u16, &[u8], usize, Option<(usize, usize)>); 8] = [
+        (4, &ONE_FLOW, 0, Some((0, 4))),
+        (4, &ONE_FLOW, 8, Some((8, 4))),
+        (4, &ONE_FLOW, 9, None),
+        (0, &ONE_FLOW, 12, Some((12, 0))),
+        (65535, &NAMES, 0, Some((1, 3))),
+        (65535, &NAMES, 4, Some((7, 3))),
+        (65535, &[0], 0, Some((1, 0))),
+        (65535, &[5, 97], 0, None),
+    ];
+    for (len, octets, from, want) in table {
+        assert!(rt; from <= octets.len());
+        let place = value_place(octets_field(len), octets, from);
+        assert_eq!(rt; place.map(|found| (found.at, found.len)), want);
+    }
+}
+
+/// A field of so many octets.
+fn octets_field(len: u16) -> FieldSpec {
+    FieldSpec {
+        pen: 0,
+        id: 82,
+        len,
+    }
+}
+
+#[test]
+fn a_value_is_written_over(rt: HostRuntime) -> Result<(), Fail> {
+    let mut rec = NAMES;
+    let place = value_place(octets_field(65535), &rec, 4).ok_or("cut")?;
+    for octet in &mut rec[place.at..place.at + place.len] {
+        *octet = 0;
+    }
+    assert_eq!(rt; rec, [3, 97, 98, 99, 255, 0, 3, 0, 0, 0]);
     Ok(())
 }

@@ -4,7 +4,7 @@ use Rattle.std.proofs.lemmas.List.{append-nil, map-append}
 use Rattle.std.proofs.lemmas.List.Concat.{flat_map-append}
 use Rattle.record_iter.specs.Left.{fields_left, octets_left, place_of}
 use Rattle.record_iter.specs.Walk.{HaveValues}
-use Rattle.record_iter.specs.Shown.{Placed, row_of, values_of}
+use Rattle.record_iter.specs.Shown.{Placed, row_of}
 use Rattle.record_iter.proofs.WalkLemmas.{values_more}
 use Rattle.record_iter.proofs.tests.push_fields.Goals as goal
 
