@@ -127,12 +127,12 @@ fn bodies_of_one_varying_field(rt: HostRuntime) -> Result<(), Fail> {
 #[test]
 fn a_value_has_a_place(rt: HostRuntime) {
     let table: [(u16, &[u8], usize, Option<(usize, usize)>); 8] = [
-        (4, &ONE_FLOW, 0, Some((0, 4))),
-        (4, &ONE_FLOW, 8, Some((8, 4))),
-        (4, &ONE_FLOW, 9, None),
-        (0, &ONE_FLOW, 12, Some((12, 0))),
-        (65535, &NAMES, 0, Some((1, 3))),
-        (65535, &NAMES, 4, Some((7, 3))),
+        (4, FLOW_RECORD, 0, Some((0, 4))),
+        (4, FLOW_RECORD, 8, Some((8, 4))),
+        (4, FLOW_RECORD, 9, None),
+        (0, FLOW_RECORD, 12, Some((12, 0))),
+        (65535, NAMES_BODY, 0, Some((1, 3))),
+        (65535, NAMES_BODY, 4, Some((7, 3))),
         (65535, &[0], 0, Some((1, 0))),
         (65535, &[5, 97], 0, None),
     ];
@@ -154,11 +154,11 @@ fn octets_field(len: u16) -> FieldSpec {
 
 #[test]
 fn a_value_is_written_over(rt: HostRuntime) -> Result<(), Fail> {
-    let mut rec = NAMES;
+    let mut rec = NAMES_BODY.to_vec(rt.alloc())?;
     let place = value_place(octets_field(65535), &rec, 4).ok_or("cut")?;
     for octet in &mut rec[place.at..place.at + place.len] {
         *octet = 0;
     }
-    assert_eq!(rt; rec, [3, 97, 98, 99, 255, 0, 3, 0, 0, 0]);
+    assert!(rt; rec.as_slice() == [3, 97, 98, 99, 255, 0, 3, 0, 0, 0]);
     Ok(())
 }
