@@ -1,0 +1,16 @@
+// The law of pieces.
+ghost use Rattle.std.specs.Prelude.{◌≡◌, ◌∷◌, ◌++◌, List, ℕ};
+ghost use Rattle.arrival_spec.specs.declared.event.Scripted.{Scripted};
+ghost use Rattle.arrival_spec.specs.declared.event.Scripted.TheVariants.{Bytes};
+ghost use Rattle.arrival_spec.specs.Mark.{arrivals_in};
+ghost use Rattle.arrival_spec.specs.Settings.{Settings};
+ghost use Rattle.arrival_spec.specs.Run.{run_of, standing_after};
+
+/// Octets of a connection may come in any pieces: two of them, one behind the other, bring what they bring as one, and
+/// leave the same behind them. Where the connection isn't open each piece is stray, so that their number is counted.
+pub fn octets_may_come_in_any_pieces()
+    ensures arrivals { (settings : Settings) (input c : ℕ) (a b : List ℕ) (before after : List Scripted)
+        → arrivals_in (run_of settings input (before ++ Bytes c a ∷ Bytes c b ∷ after)).marks ≡ arrivals_in (run_of settings input (before ++ Bytes c (a ++ b) ∷ after)).marks }
+    ensures stands { (settings : Settings) (input c : ℕ) (a b : List ℕ) (before after : List Scripted)
+        → standing_after settings input (before ++ Bytes c a ∷ Bytes c b ∷ after) ≡ standing_after settings input (before ++ Bytes c (a ++ b) ∷ after) }
+{}
