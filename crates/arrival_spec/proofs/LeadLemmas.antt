@@ -89,7 +89,7 @@ module _ (input : ℕ) where
   abbrev pub keys : List ℕ → List SessionKey
   keys ns = map (key_of input) ns
 
-  same_number : (m n : ℕ) → same_key (key_of input m) (key_of input n) ≡ (m == n)
+  pub same_number : (m n : ℕ) → same_key (key_of input m) (key_of input n) ≡ (m == n)
   same_number m n = ap (λ b. b && m == n) (eq-eqb input input refl)
 
   has_number : (n : ℕ) (ns : List ℕ) → has_key (key_of input n) (keys ns) ≡ list_any (λ m. n == m) ns

@@ -28,7 +28,7 @@ pub record IsSound (s : Standing) : Type 0 where
   pub few : length (open_sessions s) ≤ 4096
   pub room : s.opened ≤ 2 ^ 32
 
-raw_marks : (input n : ℕ) (messages : List (List ℕ)) → arrivals_in (map (λ m. Arrives (Raw (key_of input n) m)) messages) ≡ map (Raw (key_of input n)) messages
+pub raw_marks : (input n : ℕ) (messages : List (List ℕ)) → arrivals_in (map (λ m. Arrives (Raw (key_of input n) m)) messages) ≡ map (Raw (key_of input n)) messages
 raw_marks input n [] = refl
 raw_marks input n (m ∷ messages) = ap (λ l. Raw (key_of input n) m ∷ l) (raw_marks input n messages)
 

@@ -99,7 +99,7 @@ module _ (settings : Settings) (input : ℕ) where
     pub stream : is_datagrams settings.transport ≡ false → IsStream r.standing
     pub keeps : Keeps 4096 [] (arrivals_in r.marks)
 
-  goes_on : (r : Run) (e : Scripted) → IsRight r → IsRight (with_event settings input r e)
+  pub goes_on : (r : Run) (e : Scripted) → IsRight r → IsRight (with_event settings input r e)
   goes_on r e p =
       let g = goes (is_datagrams settings.transport) refl r.standing e p.sound p.stream in
       let next = gives settings input r.standing e in
