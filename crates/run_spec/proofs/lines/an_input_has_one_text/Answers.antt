@@ -1,5 +1,0 @@
-use Rattle.run_spec.proofs.LineLemmas.{some_text, one_text}
-use Rattle.run_spec.proofs.lines.an_input_has_one_text.Goals as goal
-
-pub returns : goal.returns
-returns c = record { some = some_text; one = one_text }
