@@ -1,5 +1,5 @@
 -- What goes on alike gives the same works; and each session is decoded by itself.
-use Rattle.std.proofs.Common.{◌≡◌, ℕ, Bool, true, false, cond, List, [], ◌∷◌, ◌++◌, Some, refl, ap, sym, subst, ◌∙◌, append-nil}
+use Rattle.std.proofs.Common.{◌≡◌, Bool, true, false, cond, List, [], ◌∷◌, ◌++◌, Some, refl, ap, sym, subst, ◌∙◌, append-nil}
 use Rattle.std.specs.Prelude.{Ok, Err, filter}
 use Rattle.std.proofs.lemmas.Bool.{eqb-true, eq-eqb, and_parts, and_from}
 use Rattle.std.proofs.lemmas.Grind.{flat_map-append}
@@ -13,7 +13,7 @@ use Rattle.run_spec.specs.Read.{ReadArrival}
 use Rattle.run_spec.specs.Judge.{Inputs, Judgement, same_key, message_of, messages_of, judge, judgement, is_taken}
 use Rattle.run_spec.specs.Judge.Judgement.{Malformed, Crowded, Late, Taken}
 use Rattle.run_spec.specs.Touches.{touches_before}
-use Rattle.run_spec.specs.Outcome.{Outcome, outcomes_after}
+use Rattle.run_spec.specs.Outcome.{outcomes_after}
 use Rattle.run_spec.specs.Work.{Work, outcomes_if, outcomes_of, work_of, works_after, works_of}
 use Rattle.run_spec.specs.Apart.{is_of, without_withdrawals}
 use Rattle.run_spec.proofs.MoreLemmas.{malformed_none}

@@ -1,5 +1,5 @@
 -- What plays no part in the decoding of an arrival: other sessions, and over UDP withdrawals (RFC 7011, sections 8 and 8.4).
-use Rattle.std.specs.Prelude.{ℕ, Bool, false, List, filter, map}
+use Rattle.std.specs.Prelude.{Bool, false, filter, map}
 use Rattle.col_base.specs.declared.base.SessionKey.{SessionKey}
 use Rattle.wire_spec.specs.Content.{Part, Message}
 use Rattle.wire_spec.specs.Content.Part.{Touches, Body}
