@@ -1,5 +1,5 @@
 -- The texts of runs over the example messages: each message is read by hand, and the rest computed.
-use Rattle.std.proofs.Common.{true, false, List, [], ◌∷◌, ◌++◌, refl, map}
+use Rattle.std.proofs.Common.{◌≡◌, true, false, List, [], ◌∷◌, ◌++◌, refl, map}
 use Rattle.std.specs.Prelude.{Ok, Err}
 use Rattle.std.specs.Str.{is_utf8, chars}
 use Rattle.std.specs.Fmt.{digits}
@@ -21,8 +21,8 @@ use Rattle.run_spec.specs.Read.{ReadArrival}
 use Rattle.run_spec.specs.Work.{items_of}
 use Rattle.run_spec.specs.Examples.{all_over, from_peer, stream_of}
 use Rattle.run_spec.specs.Result.{IsText}
-use Rattle.result_spec.specs.Result.{IsRunResult, inputs_of}
-use Rattle.result_spec.specs.Lines.{destination_line, flow_line, flow_view, more_rows, name_line, named_line, options_line, repeated_line, skipped_view, source_line}
+use Rattle.result_spec.specs.Result.{IsRunResult, inputs_of, result_text}
+use Rattle.result_spec.specs.Lines.{destination_line, filtered, flow_line, flow_view, more_rows, name_line, named_line, options_line, repeated_line, second_file, second_line, skipped_view, source_line, two_addresses}
 use Rattle.result_spec.specs.TwoFiles.{one_file, three_arrivals}
 
 pub nothing_text : IsText (over File) true builtin_rows (Opened 0 ∷ Closed 0 ∷ []) []
@@ -133,8 +133,20 @@ one_flow_viewed =
     let read : List ReadArrival = SessionOpen (key_of 0 0) File ∷ Raw (key_of 0 0) (Ok one_flow_message) ∷ SessionClose (key_of 0 0) ∷ [] in
     (items_of (inputs_of one_file) read, (read, (refl, ((Ok one_flow_message, one_flow_says, refl), (refl, tt))), refl), refl)
 
+pub without_options_result : IsRunResult one_file builtin_rows (stream_of options ∷ []) three_arrivals 1 []
+without_options_result =
+    let read : List ReadArrival = SessionOpen (key_of 0 0) File ∷ Raw (key_of 0 0) (Ok options_message) ∷ SessionClose (key_of 0 0) ∷ [] in
+    (items_of (inputs_of one_file) read, (read, (refl, ((Ok options_message, options_says, refl), (refl, tt))), refl), refl)
+
 pub skipped_viewed : IsRunResult one_file builtin_rows (stream_of data_alone ∷ []) three_arrivals 0 skipped_view
 unfolding transport_word opened_line closed_line message_line set_line view_line builtin_rows find_element name_text type_at value_text quote dot colon equals_sign space four_spaces line_feed slash session_mark open_mark close_mark message_mark domain_mark export_mark sequence_mark records_mark template_mark digits
 skipped_viewed =
     let read : List ReadArrival = SessionOpen (key_of 0 0) File ∷ Raw (key_of 0 0) (Ok data_alone_message) ∷ SessionClose (key_of 0 0) ∷ [] in
     (items_of (inputs_of one_file) read, (read, (refl, ((Ok data_alone_message, data_alone_says, refl), (refl, tt))), refl), refl)
+
+pub second_in_lines : result_text filtered builtin_rows 0 (two_addresses ∷ []) ≡ second_line
+unfolding json_line builtin_rows find_element name_text type_at value_text quote hexadecimal_mark dot colon comma enterprise_mark id_mark before_name after_name list_start list_end entry_start options_start line_end is_utf8 chars digits lib.Utf8.encode
+second_in_lines = refl
+
+pub second_in_a_file : result_text filtered builtin_rows 1 (two_addresses ∷ []) ≡ second_file
+second_in_a_file = refl
