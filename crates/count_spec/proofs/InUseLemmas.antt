@@ -4,6 +4,8 @@ use Rattle.std.specs.Prelude.{Ok, Err, Result, Option, ◌==◌, sum_by, count_b
 use Rattle.std.specs.List.{list_any}
 use Rattle.std.proofs.lemmas.Bool.{eqb-true, eq-eqb}
 use Rattle.std.proofs.lemmas.Grind.{flat_map-append}
+use Rattle.std.proofs.lemmas.List.{map-append}
+use Rattle.std.proofs.lemmas.List.Elements.{filter-append}
 use Rattle.std.proofs.lemmas.List.Folds.{list_any-append}
 use Rattle.std.proofs.lemmas.List.Sums.{fold-append, sum_by-cons, sum_by_push}
 use Rattle.std.proofs.Math.Bool.{and-false}
@@ -14,13 +16,14 @@ use Rattle.wire_spec.specs.declared.malformed.Malformed.{Malformed as Fault}
 use Rattle.wire_spec.specs.Content.{Message}
 use Rattle.arrival_spec.specs.Arrival.Arrival.{SessionOpen, Raw, SessionClose, Periodic}
 use Rattle.run_spec.specs.Read.{ReadArrival}
-use Rattle.run_spec.specs.Judge.{Inputs, Judgement, same_key, different}
+use Rattle.arrival_spec.specs.Order.{same_key, open_by, open_keys}
+use Rattle.run_spec.specs.Judge.{Inputs, Judgement, different}
 use Rattle.run_spec.specs.Judge.Judgement.{Malformed, Crowded, Late, Taken}
 use Rattle.run_spec.specs.Work.{Work}
 use Rattle.run_spec.proofs.AlikeLemmas.{among_different}
 use Rattle.run_spec.proofs.ApartLemmas.{same_is, own_is}
 use Rattle.count_spec.specs.Counts.{taken_as, taken_of}
-use Rattle.count_spec.specs.Openings.{deeds, deeds_at, deeds_of, is_live, open_by, open_keys, domain_at, domains_of, live_at, live_of, live_in, ended_in, cut_arrival, first_sets, in_use_by, in_use}
+use Rattle.count_spec.specs.Openings.{deeds, deeds_at, deeds_of, is_live, open_after, open_of, domain_at, domains_of, live_at, live_of, live_in, ended_in, cut_arrival, first_sets, in_use_by, in_use}
 use Rattle.count_spec.specs.More.{one_if, IsOpenOnce}
 use Rattle.count_spec.proofs.MoreLemmas.{one_more_deeds}
 use Rattle.count_spec.proofs.PairLemmas.{taken_is, of_nothing, of_other, of_one}
@@ -64,16 +67,48 @@ removed key f (k ∷ keys) =
         let c = sum_by-cons f k (others_of key keys) in
         omega arith
 
+-- the keys of an input alone
+abbrev own_keys : ℕ → List SessionKey → List SessionKey
+own_keys input keys = filter (λ (k : SessionKey). k.input == input) keys
+
+swapped : (input : ℕ) (key : SessionKey) (keys : List SessionKey) → own_keys input (others_of key keys) ≡ others_of key (own_keys input keys)
+swapped input key [] = refl
+swapped input key (k ∷ keys) = by_tests (same_key k key) (k.input == input) refl refl (swapped input key keys)
+  where
+    by_tests : (a b : Bool) → same_key k key ≡ a → (k.input == input) ≡ b → own_keys input (others_of key keys) ≡ others_of key (own_keys input keys)
+        → own_keys input (cond (not a) (k ∷ others_of key keys) (others_of key keys)) ≡ others_of key (cond b (k ∷ own_keys input keys) (own_keys input keys))
+    by_tests true true e f further = further ∙ ap (λ c. cond (not c) (k ∷ others_of key (own_keys input keys)) (others_of key (own_keys input keys))) (sym e)
+    by_tests true false e f further = further
+    by_tests false true e f further =
+        ap (λ c. cond c (k ∷ own_keys input (others_of key keys)) (own_keys input (others_of key keys))) f
+        ∙ (ap (λ l. k ∷ l) further ∙ ap (λ c. cond (not c) (k ∷ others_of key (own_keys input keys)) (others_of key (own_keys input keys))) (sym e))
+    by_tests false false e f further = ap (λ c. cond c (k ∷ own_keys input (others_of key keys)) (own_keys input (others_of key keys))) f ∙ further
+
+-- a session stands as often among those of its input
+of_input : (key : SessionKey) (keys : List SessionKey) → count_by (λ (k : SessionKey). same_key k key) (own_keys key.input keys) ≡ count_by (λ (k : SessionKey). same_key k key) keys
+of_input key [] = refl
+of_input key (k ∷ keys) =
+    let a = sum_by-cons (λ (x : SessionKey). one_if (same_key x key)) k keys in
+    by_tests (k.input == key.input) refl a (of_input key keys)
+  where
+    by_tests : (b : Bool) → (k.input == key.input) ≡ b → count_by (λ (x : SessionKey). same_key x key) (k ∷ keys) ≡ one_if (same_key k key) + count_by (λ (x : SessionKey). same_key x key) keys
+        → count_by (λ (x : SessionKey). same_key x key) (own_keys key.input keys) ≡ count_by (λ (x : SessionKey). same_key x key) keys
+        → count_by (λ (x : SessionKey). same_key x key) (cond b (k ∷ own_keys key.input keys) (own_keys key.input keys)) ≡ count_by (λ (x : SessionKey). same_key x key) (k ∷ keys)
+    by_tests true e a further = let c = sum_by-cons (λ (x : SessionKey). one_if (same_key x key)) k (own_keys key.input keys) in omega arith
+    by_tests false e a further =
+        let none : one_if (same_key k key) ≡ one_if false = ap one_if (ap (λ c. c && k.number == key.number) e) in
+        omega arith
+
 module _ (inputs : Inputs) where
   -- the open sessions, one arrival later
-  keys_more : (input : ℕ) (works : List Work) (w : Work) → open_keys input (works ++ w ∷ []) ≡ open_by input (open_keys input works) w.arrival
-  keys_more input works w = fold-append (λ (keys : List SessionKey) (v : Work). open_by input keys v.arrival) [] works (w ∷ [])
+  keys_more : (works : List Work) (w : Work) → open_after (works ++ w ∷ []) ≡ open_by (open_after works) w.arrival
+  keys_more works w = ap open_keys (map-append (λ (v : Work). v.arrival) works (w ∷ [])) ∙ fold-append (open_by {M = Result Message Fault}) [] (map (λ (v : Work). v.arrival) works) (w.arrival ∷ [])
 
-  taken_keeps : (input : ℕ) (keys : List SessionKey) (a : ReadArrival) (j : Option Judgement) (t : SessionKey × Message) → taken_as a j ≡ t ∷ [] → open_by input keys a ≡ keys
-  taken_keeps input keys (SessionOpen key transport) j t e = absurd cc
-  taken_keeps input keys (SessionClose key) j t e = absurd cc
-  taken_keeps input keys (Periodic i seconds) j t e = refl
-  taken_keeps input keys (Raw key read) j t e = refl
+  taken_keeps : (keys : List SessionKey) (a : ReadArrival) (j : Option Judgement) (t : SessionKey × Message) → taken_as a j ≡ t ∷ [] → open_by keys a ≡ keys
+  taken_keeps keys (SessionOpen key transport) j t e = absurd cc
+  taken_keeps keys (SessionClose key) j t e = absurd cc
+  taken_keeps keys (Periodic i seconds) j t e = refl
+  taken_keeps keys (Raw key read) j t e = refl
 
   module _ (works : List Work) (w : Work) where
     abbrev later : List Work
@@ -209,12 +244,13 @@ module _ (inputs : Inputs) where
 
       taken_live : IsOpenOnce key works → live_in inputs key.input later + was ≡ live_in inputs key.input works + now
       taken_live once_open =
-          let keys = open_keys key.input works in
+          let keys = open_of key.input works in
           let same : live_in inputs key.input later ≡ sum_by (live_of inputs later) keys =
-          ap (sum_by (live_of inputs later)) (keys_more key.input works w ∙ taken_keeps key.input keys w.arrival w.judgement (key, m) e) in
+          ap (λ l. sum_by (live_of inputs later) (own_keys key.input l)) (keys_more works w ∙ taken_keeps (open_after works) w.arrival w.judgement (key, m) e) in
+          let there = of_input key (open_after works) ∙ once_open in
           let all = sum_at (λ (k : SessionKey). same_key k key) (live_of inputs later) (live_of inputs works) now was keys other_session (λ k f. at_own k f) in
-          let left = once (λ (k : SessionKey). same_key k key) was keys once_open in
-          let right = once (λ (k : SessionKey). same_key k key) now keys once_open in
+          let left = once (λ (k : SessionKey). same_key k key) was keys there in
+          let right = once (λ (k : SessionKey). same_key k key) now keys there in
           omega arith
         where
           at_own : (k : SessionKey) → same_key k key ≡ true → live_of inputs later k + was ≡ live_of inputs works k + now
@@ -236,35 +272,38 @@ module _ (inputs : Inputs) where
       → in_use_by inputs works w + one_if (live_at inputs key m.domain works) ≡ live_in inputs key.input works + one_if (live_at inputs key m.domain (works ++ w ∷ [])) + ended_in inputs works (key, m) w.outcomes
   used_more works w key m e once_open = taken_used works w key m e once_open
 
-  live_kept : (input : ℕ) (works : List Work) (w : Work) → taken_of w ≡ [] → open_by input (open_keys input works) w.arrival ≡ open_keys input works → live_in inputs input (works ++ w ∷ []) ≡ live_in inputs input works
+  live_kept : (input : ℕ) (works : List Work) (w : Work) → taken_of w ≡ [] → open_by (open_after works) w.arrival ≡ open_after works → live_in inputs input (works ++ w ∷ []) ≡ live_in inputs input works
   live_kept input works w e keys =
-      ap (sum_by (live_of inputs (works ++ w ∷ []))) (keys_more input works w ∙ keys) ∙ sums_same works w (nothing_of works w e) (open_keys input works)
+      ap (λ l. sum_by (live_of inputs (works ++ w ∷ [])) (own_keys input l)) (keys_more works w ∙ keys) ∙ sums_same works w (nothing_of works w e) (open_of input works)
 
   -- One that is dropped, and a tick, leave it.
   pub live_dropped : (input : ℕ) (works : List Work) (w : Work) (key : SessionKey) (read : Result Message Fault) → w.arrival ≡ Raw key read → taken_of w ≡ [] → live_in inputs input (works ++ w ∷ []) ≡ live_in inputs input works
-  live_dropped input works w key read e none = live_kept input works w none (ap (open_by input (open_keys input works)) e)
+  live_dropped input works w key read e none = live_kept input works w none (ap (open_by (open_after works)) e)
 
   pub live_tick : (input i seconds : ℕ) (works : List Work) (w : Work) → w.arrival ≡ Periodic i seconds → live_in inputs input (works ++ w ∷ []) ≡ live_in inputs input works
-  live_tick input i seconds works w e = live_kept input works w (ap (λ a. taken_as a w.judgement) e) (ap (open_by input (open_keys input works)) e)
+  live_tick input i seconds works w e = live_kept input works w (ap (λ a. taken_as a w.judgement) e) (ap (open_by (open_after works)) e)
 
   -- A session that closes takes its own away.
   pub live_closed : (works : List Work) (w : Work) (key : SessionKey) → w.arrival ≡ SessionClose key → IsOpenOnce key works → live_in inputs key.input (works ++ w ∷ []) + live_of inputs works key ≡ live_in inputs key.input works
   live_closed works w key e once_open =
-      let keys = open_keys key.input works in
+      let keys = open_of key.input works in
       let none : taken_of w ≡ [] = ap (λ a. taken_as a w.judgement) e in
-      let left : open_keys key.input (works ++ w ∷ []) ≡ filter (λ (k : SessionKey). not (same_key k key)) keys = keys_more key.input works w ∙ ap (open_by key.input keys) e in
+      let left : open_of key.input (works ++ w ∷ []) ≡ others_of key keys = ap (own_keys key.input) (keys_more works w ∙ ap (open_by (open_after works)) e) ∙ swapped key.input key (open_after works) in
+      let there = of_input key (open_after works) ∙ once_open in
       let a = ap (sum_by (live_of inputs (works ++ w ∷ []))) left in
-      let b = sums_same works w (nothing_of works w none) (filter (λ (k : SessionKey). not (same_key k key)) keys) in
+      let b = sums_same works w (nothing_of works w none) (others_of key keys) in
       let c = removed key (live_of inputs works) keys in
-      let d = once (λ (k : SessionKey). same_key k key) (live_of inputs works key) keys once_open in
+      let d = once (λ (k : SessionKey). same_key k key) (live_of inputs works key) keys there in
       omega arith
 
   -- One that opens has none.
   pub live_opened : (works : List Work) (w : Work) (key : SessionKey) (transport : Transport) → w.arrival ≡ SessionOpen key transport → domains_of key works ≡ [] → live_in inputs key.input (works ++ w ∷ []) ≡ live_in inputs key.input works
   live_opened works w key transport e new =
-      let keys = open_keys key.input works in
+      let keys = open_of key.input works in
       let none : taken_of w ≡ [] = ap (λ a. taken_as a w.judgement) e in
-      let more : open_keys key.input (works ++ w ∷ []) ≡ keys ++ key ∷ [] = keys_more key.input works w ∙ (ap (open_by key.input keys) e ∙ ap (λ c. cond c (keys ++ key ∷ []) keys) (eq-eqb key.input key.input refl)) in
+      let more : open_of key.input (works ++ w ∷ []) ≡ keys ++ key ∷ [] =
+      ap (own_keys key.input) (keys_more works w ∙ ap (open_by (open_after works)) e)
+      ∙ (filter-append (λ (k : SessionKey). k.input == key.input) (open_after works) (key ∷ []) ∙ ap (λ c. keys ++ cond c (key ∷ []) []) (eq-eqb key.input key.input refl)) in
       let a = ap (sum_by (live_of inputs (works ++ w ∷ []))) more in
       let b = sum_by_push (live_of inputs (works ++ w ∷ [])) keys key in
       let c = sums_same works w (nothing_of works w none) keys in

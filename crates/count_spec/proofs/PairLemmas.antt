@@ -13,7 +13,8 @@ use Rattle.wire_spec.specs.Content.{Touch, Part, Message}
 use Rattle.template_spec.specs.Changes.{changes, count_after}
 use Rattle.arrival_spec.specs.Arrival.Arrival.{SessionOpen, Raw, SessionClose, Periodic}
 use Rattle.run_spec.specs.Read.{ReadArrival}
-use Rattle.run_spec.specs.Judge.{Inputs, Judgement, same_key}
+use Rattle.arrival_spec.specs.Order.{same_key}
+use Rattle.run_spec.specs.Judge.{Inputs, Judgement}
 use Rattle.run_spec.specs.Judge.Judgement.{Malformed, Crowded, Late, Taken}
 use Rattle.run_spec.specs.Touches.{dated, touches_in}
 use Rattle.run_spec.specs.Outcome.{Outcome, DecodedSet, decoded_sets}

@@ -10,7 +10,8 @@ use Rattle.wire_spec.specs.Content.{Message}
 use Rattle.arrival_spec.specs.Arrival.Arrival.{SessionOpen, Raw, SessionClose, Periodic}
 use Rattle.arrival_spec.specs.Settings.{Settings}
 use Rattle.run_spec.specs.Read.{ReadArrival}
-use Rattle.run_spec.specs.Judge.{Inputs, Judgement, same_key, message_of, messages_of, judge, judgement, is_taken}
+use Rattle.arrival_spec.specs.Order.{same_key}
+use Rattle.run_spec.specs.Judge.{Inputs, Judgement, message_of, messages_of, judge, judgement, is_taken}
 use Rattle.run_spec.specs.Judge.Judgement.{Malformed, Crowded, Late, Taken}
 use Rattle.run_spec.specs.Touches.{touches_before}
 use Rattle.run_spec.specs.Outcome.{outcomes_after}

@@ -6,7 +6,7 @@ use Rattle.wire_spec.specs.Content.Part.{Touches, Body}
 use Rattle.template_spec.specs.Late.{is_definition}
 use Rattle.arrival_spec.specs.Arrival.Arrival.{SessionOpen, Raw, SessionClose, Periodic}
 use Rattle.run_spec.specs.Read.{ReadArrival}
-use Rattle.run_spec.specs.Judge.{same_key}
+use Rattle.arrival_spec.specs.Order.{same_key}
 
 -- the arrival is of a session
 abbrev pub is_of : SessionKey → ReadArrival → Bool
