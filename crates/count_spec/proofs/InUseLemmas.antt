@@ -33,7 +33,7 @@ number_test : IsTest (λ (m n : ℕ). m == n)
 number_test = record { is = λ a b e. eqb-true a b e; own = λ a. eq-eqb a a refl }
 
 -- two keys are the same both ways
-other_way : (a b : SessionKey) → same_key a b ≡ false → same_key b a ≡ false
+pub other_way : (a b : SessionKey) → same_key a b ≡ false → same_key b a ≡ false
 other_way a b e = by_same (same_key b a) refl
   where
     by_same : (c : Bool) → same_key b a ≡ c → same_key b a ≡ false

@@ -1,10 +1,11 @@
 // Laws of the snapshots that are opened and in use, over all sessions and domains.
-ghost use Rattle.std.specs.Prelude.{◌≡◌, ◌≤◌, ◌+◌, ◌∷◌, ◌++◌, [], List, Ok, Err, Result, ℕ, false, length, sum_by, take};
+ghost use Rattle.std.specs.Prelude.{◌≡◌, ◌≤◌, ◌+◌, ◌∷◌, ◌++◌, [], List, Ok, Err, Result, ℕ, false, length, map, sum_by, take, true};
 ghost use Rattle.col_base.specs.declared.base.SessionKey.{SessionKey};
 ghost use Rattle.col_base.specs.declared.base.Transport.{Transport};
 ghost use Rattle.wire_spec.specs.declared.malformed.Malformed.{Malformed};
 ghost use Rattle.wire_spec.specs.Content.{Message};
 ghost use Rattle.arrival_spec.specs.Arrival.Arrival.{Periodic, Raw, SessionClose, SessionOpen};
+ghost use Rattle.arrival_spec.specs.Order.{are_in_order};
 ghost use Rattle.run_spec.specs.Judge.{Inputs};
 ghost use Rattle.run_spec.specs.Work.{Work};
 ghost use Rattle.count_spec.specs.Counts.{taken_of};
@@ -16,6 +17,12 @@ ghost use Rattle.count_spec.specs.More.{IsOpenOnce, one_if};
 pub fn openings_are_at_most_pairs_and_template_records()
     ensures summed { (inputs : Inputs) (works : List Work) → opens inputs works ≡ sum_by (λ p. openings_after (inputs p.0.input).transport [] false (deeds inputs p.0 p.1 works)) (pairs works) }
     ensures most { (inputs : Inputs) (works : List Work) → opens inputs works ≤ length (pairs works) + touches_taken inputs works }
+{}
+
+/// In arrivals in order a message, and a closing, come in a session that is open once.
+pub fn a_message_comes_in_one_open_session()
+    ensures message { (works : List Work) (w : Work) (key : SessionKey) (read : Result Message Malformed) → are_in_order (map (λ v. v.arrival) (works ++ w ∷ [])) ≡ true → w.arrival ≡ Raw key read → IsOpenOnce key works }
+    ensures closing { (works : List Work) (w : Work) (key : SessionKey) → are_in_order (map (λ v. v.arrival) (works ++ w ∷ [])) ≡ true → w.arrival ≡ SessionClose key → IsOpenOnce key works }
 {}
 
 /// Before a set of a message the snapshots in use are those that were live before the message, with that of the message's
