@@ -1,6 +1,6 @@
 -- In arrivals in order a session that a message or a closing comes in is open once.
-use Rattle.std.proofs.Common.{◌≡◌, ℕ, ◌+◌, ◌≤◌, Bool, true, false, not, ◌&&◌, ◌||◌, cond, List, [], ◌∷◌, ◌++◌, refl, ap, sym, subst, ◌∙◌, map, arith, append_assoc, append-nil}
-use Rattle.std.specs.Prelude.{Result, count_by, filter, flat_map}
+use Rattle.std.proofs.Common.{◌≡◌, ℕ, ◌+◌, ◌≤◌, Bool, true, false, not, ◌||◌, cond, List, [], ◌∷◌, ◌++◌, refl, ap, sym, subst, ◌∙◌, map, arith, append_assoc, append-nil}
+use Rattle.std.specs.Prelude.{Result, count_by, filter}
 use Rattle.std.specs.List.{list_any}
 use Rattle.std.proofs.lemmas.Bool.{and_parts}
 use Rattle.std.proofs.lemmas.Grind.{flat_map-append}
@@ -15,7 +15,6 @@ use Rattle.arrival_spec.specs.Order.{same_key, opened_in, opened_keys, open_by, 
 use Rattle.run_spec.specs.Read.{ReadArrival}
 use Rattle.run_spec.specs.Work.{Work}
 use Rattle.run_spec.proofs.ApartLemmas.{same_is, own_is}
-use Rattle.count_spec.specs.Openings.{open_after}
 use Rattle.count_spec.specs.More.{one_if, IsOpenOnce}
 use Rattle.count_spec.proofs.InUseLemmas.{other_way}
 use Rattle.count_spec.proofs.SumLemmas.{some_counted}
