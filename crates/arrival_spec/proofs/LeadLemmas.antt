@@ -1,9 +1,9 @@
 -- From sessions that were opened and are open, arrivals in order lead to others.
-use Rattle.std.proofs.Common.{◌≡◌, ℕ, ◌+◌, Bool, true, false, cond, not, ◌&&◌, ◌||◌, List, [], ◌∷◌, ◌++◌, refl, ap, sym, subst, ◌∙◌, append_assoc, append-nil, map}
+use Rattle.std.proofs.Common.{◌≡◌, ℕ, ◌+◌, ◌≤◌, Bool, true, false, cond, not, ◌&&◌, ◌||◌, List, [], ◌∷◌, ◌++◌, length, refl, ap, sym, subst, ◌∙◌, arith, append_assoc, append-nil, map}
 use Rattle.std.specs.Prelude.{◌==◌, filter, fold}
 use Rattle.std.specs.List.{list_any}
 use Rattle.std.proofs.lemmas.Bool.{eq-eqb, and_from, and_parts}
-use Rattle.std.proofs.lemmas.List.{map-append}
+use Rattle.std.proofs.lemmas.List.{append_cancel_left, map-append}
 use Rattle.std.proofs.lemmas.List.Sums.{fold-append}
 use Rattle.std.proofs.lemmas.Grind.{flat_map-append}
 use Rattle.col_base.specs.declared.base.SessionKey.{SessionKey}
@@ -53,11 +53,43 @@ pub front_in_order : (before after : List (Arrival Octets)) → are_in_order (be
 front_in_order before after e =
     order_is [] before ∙ (and_parts (order_from [] [] before) (order_from (opened_keys before) (open_keys before) after) (sym (order-append [] [] before after) ∙ (sym (order_is [] (before ++ after)) ∙ e))).0
 
+-- no more than so many sessions are open, before and after each of the arrivals
+abbrev pub Keeps : ℕ → List SessionKey → List (Arrival Octets) → Type 0
+Keeps most keys [] = length keys ≤ most
+Keeps most keys (a ∷ list) = (length keys ≤ most) × Keeps most (open_by keys a) list
+
+length_kept : (test : SessionKey → Bool) (ks : List SessionKey) → length (filter test ks) ≤ length ks
+length_kept test [] = omega arith
+length_kept test (k ∷ ks) = by_test (test k) (length_kept test ks)
+  where
+    by_test : (b : Bool) → length (filter test ks) ≤ length ks → length (cond b (k ∷ filter test ks) (filter test ks)) ≤ length (k ∷ ks)
+    by_test true further = omega arith
+    by_test false further = omega arith
+
+-- where none opens there are no more
+pub keeps_quiet : (most : ℕ) (ks : List SessionKey) (list : List (Arrival Octets)) → opened_keys list ≡ [] → length ks ≤ most → Keeps most ks list
+keeps_quiet most ks [] none few = few
+keeps_quiet most ks (SessionOpen key transport ∷ list) none few = absurd cc
+keeps_quiet most ks (Raw key message ∷ list) none few = (few, keeps_quiet most ks list none few)
+keeps_quiet most ks (SessionClose key ∷ list) none few =
+    let fewer = length_kept (λ k. not (same_key k key)) ks in
+    (few, keeps_quiet most (filter (λ k. not (same_key k key)) ks) list none (omega arith))
+keeps_quiet most ks (Periodic i seconds ∷ list) none few = (few, keeps_quiet most ks list none few)
+
+pub keeps_then : (most : ℕ) (ks : List SessionKey) (xs ys : List (Arrival Octets)) → Keeps most ks xs → Keeps most (fold open_by ks xs) ys → Keeps most ks (xs ++ ys)
+keeps_then most ks [] ys p q = q
+keeps_then most ks (a ∷ xs) ys p q = (p.0, keeps_then most (open_by ks a) xs ys p.1 q)
+
+pub keeps_front : (most : ℕ) (ks : List SessionKey) (front rest : List (Arrival Octets)) → Keeps most ks (front ++ rest) → length (fold open_by ks front) ≤ most
+keeps_front most ks [] [] p = p
+keeps_front most ks [] (a ∷ rest) p = p.0
+keeps_front most ks (a ∷ front) rest p = keeps_front most (open_by ks a) front rest p.1
+
 module _ (input : ℕ) where
   abbrev pub keys : List ℕ → List SessionKey
   keys ns = map (key_of input) ns
 
-  same_number : (m n : ℕ) → same_key (key_of input m) (key_of input n) ≡ (m == n)
+  pub same_number : (m n : ℕ) → same_key (key_of input m) (key_of input n) ≡ (m == n)
   same_number m n = ap (λ b. b && m == n) (eq-eqb input input refl)
 
   has_number : (n : ℕ) (ns : List ℕ) → has_key (key_of input n) (keys ns) ≡ list_any (λ m. n == m) ns
@@ -79,6 +111,10 @@ module _ (input : ℕ) where
     pub order : order_from (keys o) (keys k) list ≡ true
     pub opened : keys o ++ opened_keys list ≡ keys p
     pub still : fold open_by (keys k) list ≡ keys l
+
+  -- where nothing was opened, none opens
+  pub none_opened : (o k l : List ℕ) (list : List (Arrival Octets)) → Leads o k list o l → opened_keys list ≡ []
+  none_opened o k l list p = append_cancel_left (keys o) (opened_keys list) [] (p.opened ∙ sym (append-nil (keys o)))
 
   pub leads_nothing : (o k : List ℕ) → Leads o k [] o k
   leads_nothing o k = record { order = refl; opened = append-nil (keys o); still = refl }

@@ -4,10 +4,11 @@ use Rattle.std.specs.Prelude.{Option, ◌==◌, nat_le, find, filter}
 use Rattle.std.specs.List.{list_any}
 use Rattle.std.proofs.lemmas.Bool.{eqb-true, eq-eqb, leb-false, or_left, or_right, or_parts}
 use Rattle.std.proofs.lemmas.List.Folds.{list_any-append}
-use Rattle.std.proofs.lemmas.List.{map-append}
+use Rattle.std.proofs.lemmas.List.{length-map, map-append}
 use Rattle.std.proofs.lemmas.Grind.{flat_map-append}
 use Rattle.wire_spec.specs.Stream.{is_bad}
 use Rattle.arrival_spec.specs.declared.event.PeerKey.{PeerKey}
+use Rattle.arrival_spec.specs.Arrival.{Arrival}
 use Rattle.arrival_spec.specs.Arrival.Arrival.{SessionOpen, Raw, SessionClose, Periodic}
 use Rattle.arrival_spec.specs.Mark.{Mark, arrival_in, arrivals_in}
 use Rattle.arrival_spec.specs.Mark.Mark.{Arrives, Refused, Broken}
@@ -19,7 +20,7 @@ use Rattle.arrival_spec.proofs.FindLemmas.{found_passes}
 use Rattle.arrival_spec.proofs.AtMostLemmas.{AtMost}
 use Rattle.arrival_spec.proofs.RiseLemmas.{Rises, one_more_rises, left_rises, is_there, filter_behind, length_left, length_filtered, first_numbers_below}
 use Rattle.arrival_spec.proofs.RowLemmas.{Stands, changed, sessions_of, sessions_added, stands_among, with_session, without_session}
-use Rattle.arrival_spec.proofs.LeadLemmas.{Leads, closes, leads_close, leads_closings, leads_nothing, leads_open, leads_raw, leads_raws, leads_then, leads_tick}
+use Rattle.arrival_spec.proofs.LeadLemmas.{Keeps, Leads, closes, keeps_quiet, keys, none_opened, leads_close, leads_closings, leads_nothing, leads_open, leads_raw, leads_raws, leads_then, leads_tick}
 
 -- the numbers of the open sessions rise, below the number of all that were opened, and keep the limits
 pub record IsSound (s : Standing) : Type 0 where
@@ -27,7 +28,7 @@ pub record IsSound (s : Standing) : Type 0 where
   pub few : length (open_sessions s) ≤ 4096
   pub room : s.opened ≤ 2 ^ 32
 
-raw_marks : (input n : ℕ) (messages : List (List ℕ)) → arrivals_in (map (λ m. Arrives (Raw (key_of input n) m)) messages) ≡ map (Raw (key_of input n)) messages
+pub raw_marks : (input n : ℕ) (messages : List (List ℕ)) → arrivals_in (map (λ m. Arrives (Raw (key_of input n) m)) messages) ≡ map (Raw (key_of input n)) messages
 raw_marks input n [] = refl
 raw_marks input n (m ∷ messages) = ap (λ l. Raw (key_of input n) m ∷ l) (raw_marks input n messages)
 
@@ -50,10 +51,18 @@ module _ (input : ℕ) where
   pub record Goes (s : Standing) (g : Given) : Type 0 where
     pub leads : Leads input (first_numbers s.opened) (open_sessions s) (arrivals_in g.marks) (first_numbers g.next.opened) (open_sessions g.next)
     pub sound : IsSound g.next
+    pub keeps : Keeps 4096 (keys input (open_sessions s)) (arrivals_in g.marks)
 
   module _ (s : Standing) (sound : IsSound s) where
     abbrev before : List ℕ
     before = first_numbers s.opened
+
+    -- none opens
+    few_keys : length (keys input (open_sessions s)) ≤ 4096
+    few_keys = let few = sound.few in let same = length-map (open_sessions s) (key_of input) in omega arith
+
+    none_joins : (l : List ℕ) (list : List (Arrival (List ℕ))) → Leads input before (open_sessions s) list before l → Keeps 4096 (keys input (open_sessions s)) list
+    none_joins l list p = keeps_quiet 4096 (keys input (open_sessions s)) list (none_opened input before (open_sessions s) l list p) few_keys
 
     -- no session opens or closes
     same_open : (g : Given) → open_sessions g.next ≡ open_sessions s → g.next.opened ≡ s.opened → Leads input before (open_sessions s) (arrivals_in g.marks) before (open_sessions s) → Goes s g
@@ -64,6 +73,7 @@ module _ (input : ℕ) where
         few = subst (λ (k : List ℕ). length k ≤ 4096) (sym e) sound.few;
         room = subst (λ n. n ≤ 2 ^ 32) (sym f) sound.room;
       };
+      keeps = none_joins (open_sessions s) (arrivals_in g.marks) l;
     }
 
     pub quiet : (g : Given) → arrivals_in g.marks ≡ [] → open_sessions g.next ≡ open_sessions s → g.next.opened ≡ s.opened → Goes s g
@@ -71,8 +81,9 @@ module _ (input : ℕ) where
 
     -- a session opens
     joins : (g : Given) → is_full s ≡ false → open_sessions g.next ≡ open_sessions s ++ s.opened ∷ [] → g.next.opened ≡ s.opened + 1
-        → Leads input before (open_sessions s) (arrivals_in g.marks) (before ++ s.opened ∷ []) (open_sessions s ++ s.opened ∷ []) → Goes s g
-    joins g not_full e f l =
+        → Leads input before (open_sessions s) (arrivals_in g.marks) (before ++ s.opened ∷ []) (open_sessions s ++ s.opened ∷ [])
+        → (length (keys input (open_sessions s) ++ key_of input s.opened ∷ []) ≤ 4096 → Keeps 4096 (keys input (open_sessions s)) (arrivals_in g.marks)) → Goes s g
+    joins g not_full e f l keeps =
         let room = free s not_full in
         let few = room.0 in
         let fresh = room.1 in
@@ -86,6 +97,7 @@ module _ (input : ℕ) where
             few = subst (λ (k : List ℕ). length k ≤ 4096) (sym e) (omega arith);
             room = subst (λ n. n ≤ 2 ^ 32) (sym f) (omega arith);
           };
+          keeps = keeps (let same = length-map (open_sessions s) (key_of input) in let one_more = length-append (keys input (open_sessions s)) (key_of input s.opened ∷ []) in omega arith);
         }
 
     -- a session closes
@@ -103,6 +115,7 @@ module _ (input : ℕ) where
             few = subst (λ (n : List ℕ). length n ≤ 4096) (sym left) (omega arith);
             room = subst (λ n. n ≤ 2 ^ 32) (sym f) sound.room;
           };
+          keeps = none_joins (front ++ rest) (arrivals_in g.marks) (subst (λ n. Leads input before n (arrivals_in g.marks) before (front ++ rest)) (sym whole) l);
         }
 
     pub stray_goes : Goes s (stray s)
@@ -128,7 +141,7 @@ module _ (input : ℕ) where
           by_full false is =
               let new : Connection = record { number = c; session = Some s.opened; octets = [] } in
               joins (record { marks = Arrives (SessionOpen (key_of input s.opened) settings.transport) ∷ []; next = record (joined_by c (Some s.opened) s) { opened = s.opened + 1 } }) is
-              (live (s.connections ++ new ∷ []) ∙ (sessions_added s.connections new ∙ ap (λ l. l ++ s.opened ∷ []) (sym (live s.connections)))) refl (opening settings)
+              (live (s.connections ++ new ∷ []) ∙ (sessions_added s.connections new ∙ ap (λ l. l ++ s.opened ∷ []) (sym (live s.connections)))) refl (opening settings) (λ more. (few_keys, more))
 
       -- a connection of a number is found, and no other has its number
       module _ (numbers : (c : ℕ) → AtMost (λ (x : Connection). x.number == c) s.connections) where
@@ -236,7 +249,7 @@ module _ (input : ℕ) where
               (ap (λ l. sessions_of s.connections ++ l) (map-append (λ (x : Peer). x.session) s.peers (new ∷ [])) ∙ sym (append_assoc (sessions_of s.connections) (map (λ (x : Peer). x.session) s.peers) (s.opened ∷ []))) refl
               (leads_then input before (open_sessions s) (before ++ s.opened ∷ []) (open_sessions s ++ s.opened ∷ []) (before ++ s.opened ∷ []) (open_sessions s ++ s.opened ∷ [])
               (SessionOpen (key_of input s.opened) settings.transport ∷ []) (Raw (key_of input s.opened) octets ∷ []) (opening settings)
-              (leads_raw input (before ++ s.opened ∷ []) (open_sessions s ++ s.opened ∷ []) s.opened octets (is_there s.opened (open_sessions s) [])))
+              (leads_raw input (before ++ s.opened ∷ []) (open_sessions s ++ s.opened ∷ []) s.opened octets (is_there s.opened (open_sessions s) []))) (λ more. (few_keys, (more, more)))
       came_goes key octets (Some x) found =
           same_open (came settings input key octets s (Some x)) (ap (λ l. sessions_of s.connections ++ l) (heard_same key s.seconds s.peers)) refl
           (leads_raw input before (open_sessions s) x.session octets
@@ -251,16 +264,18 @@ module _ (input : ℕ) where
           let all = length-append (sessions_of s.connections) (map number s.peers) in
           let left = length-append (sessions_of s.connections) (map number (filter (λ x. not (is_idle settings seconds x)) s.peers)) in
           let few = sound.few in
+          let lead = subst (λ l. Leads input before (open_sessions s) l before (sessions_of s.connections ++ map number (filter (λ x. not (is_idle settings seconds x)) s.peers)))
+          (sym (flat_map-append arrival_in (map (peer_closes input) (filter idle s.peers)) (Arrives (Periodic input seconds) ∷ []) ∙ ap (λ l. l ++ Periodic input seconds ∷ []) (peer_marks input (filter idle s.peers))))
+          (leads_then input before (open_sessions s) before (sessions_of s.connections ++ map number (filter (λ x. not (is_idle settings seconds x)) s.peers)) before
+          (sessions_of s.connections ++ map number (filter (λ x. not (is_idle settings seconds x)) s.peers)) (closes input number (filter idle s.peers)) (Periodic input seconds ∷ [])
+          (leads_closings input number idle before (sessions_of s.connections) s.peers 0 s.opened sound.rises)
+          (leads_tick input before (sessions_of s.connections ++ map number (filter (λ x. not (is_idle settings seconds x)) s.peers)) seconds)) in
           record {
-            leads = subst (λ l. Leads input before (open_sessions s) l before (sessions_of s.connections ++ map number (filter (λ x. not (is_idle settings seconds x)) s.peers)))
-                (sym (flat_map-append arrival_in (map (peer_closes input) (filter idle s.peers)) (Arrives (Periodic input seconds) ∷ []) ∙ ap (λ l. l ++ Periodic input seconds ∷ []) (peer_marks input (filter idle s.peers))))
-                (leads_then input before (open_sessions s) before (sessions_of s.connections ++ map number (filter (λ x. not (is_idle settings seconds x)) s.peers)) before
-                (sessions_of s.connections ++ map number (filter (λ x. not (is_idle settings seconds x)) s.peers)) (closes input number (filter idle s.peers)) (Periodic input seconds ∷ [])
-                (leads_closings input number idle before (sessions_of s.connections) s.peers 0 s.opened sound.rises)
-                (leads_tick input before (sessions_of s.connections ++ map number (filter (λ x. not (is_idle settings seconds x)) s.peers)) seconds));
+            leads = lead;
             sound = record {
               rises = filter_behind number (λ x. not (is_idle settings seconds x)) 0 s.opened (sessions_of s.connections) s.peers sound.rises;
               few = omega arith;
               room = sound.room;
             };
+            keeps = none_joins (sessions_of s.connections ++ map number (filter (λ x. not (is_idle settings seconds x)) s.peers)) (arrivals_in (map (peer_closes input) (filter idle s.peers) ++ Arrives (Periodic input seconds) ∷ [])) lead;
           }

@@ -8,6 +8,7 @@ use Rattle.std.proofs.lemmas.Grind.{flat_map-append}
 use Rattle.arrival_spec.specs.declared.event.PeerKey.{PeerKey}
 use Rattle.arrival_spec.specs.declared.event.Scripted.{Scripted}
 use Rattle.arrival_spec.specs.declared.event.Scripted.TheVariants as event
+use Rattle.arrival_spec.specs.Arrival.{Arrival}
 use Rattle.arrival_spec.specs.Arrival.Arrival.{SessionOpen, SessionClose}
 use Rattle.arrival_spec.specs.Mark.{arrival_in, arrivals_in}
 use Rattle.arrival_spec.specs.Mark.Mark.{Arrives, Refused}
@@ -23,7 +24,7 @@ use Rattle.arrival_spec.proofs.FindLemmas.{found_passes}
 use Rattle.arrival_spec.proofs.PeerLemmas.{peer_true}
 use Rattle.arrival_spec.proofs.RiseLemmas.{behind, one_row}
 use Rattle.arrival_spec.proofs.RowLemmas.{changed, keeps_numbers, one_connection, sessions_of}
-use Rattle.arrival_spec.proofs.LeadLemmas.{Leads, closes, keys, leads_nothing, leads_then, leads_to_none, order_is}
+use Rattle.arrival_spec.proofs.LeadLemmas.{Keeps, Leads, closes, keeps_front, keeps_quiet, keeps_then, keys, none_opened, leads_nothing, leads_then, leads_to_none, order_is}
 use Rattle.arrival_spec.proofs.OpenLemmas.{IsSound, Goes, brought_goes, came_goes, closed_goes, opened_goes, peer_marks, quiet, stray_goes, ticked_goes, torn_marks}
 
 -- no two connections have one number
@@ -96,8 +97,9 @@ module _ (settings : Settings) (input : ℕ) where
     pub leads : Leads input [] [] (arrivals_in r.marks) (first_numbers r.standing.opened) (open_sessions r.standing)
     pub sound : IsSound r.standing
     pub stream : is_datagrams settings.transport ≡ false → IsStream r.standing
+    pub keeps : Keeps 4096 [] (arrivals_in r.marks)
 
-  goes_on : (r : Run) (e : Scripted) → IsRight r → IsRight (with_event settings input r e)
+  pub goes_on : (r : Run) (e : Scripted) → IsRight r → IsRight (with_event settings input r e)
   goes_on r e p =
       let g = goes (is_datagrams settings.transport) refl r.standing e p.sound p.stream in
       let next = gives settings input r.standing e in
@@ -106,6 +108,8 @@ module _ (settings : Settings) (input : ℕ) where
             (leads_then input [] [] (first_numbers r.standing.opened) (open_sessions r.standing) (first_numbers next.next.opened) (open_sessions next.next) (arrivals_in r.marks) (arrivals_in next.marks) p.leads g.leads);
         sound = g.sound;
         stream = λ is. stream_stays is r.standing e (p.stream is);
+        keeps = subst (Keeps 4096 []) (sym (flat_map-append arrival_in r.marks next.marks))
+            (keeps_then 4096 [] (arrivals_in r.marks) (arrivals_in next.marks) p.keeps (subst (λ k. Keeps 4096 k (arrivals_in next.marks)) (sym p.leads.still) g.keeps));
       }
 
   along : (r : Run) (events : List Scripted) → IsRight r → IsRight (fold (with_event settings input) r events)
@@ -117,6 +121,7 @@ module _ (settings : Settings) (input : ℕ) where
     leads = leads_nothing input [] [];
     sound = record { rises = omega arith; few = omega arith; room = omega arith };
     stream = λ is. record { no_peers = refl; apart = λ c. tt };
+    keeps = omega arith;
   })
 
   connections_close : (xs : List Connection) → arrivals_in (flat_map (λ x. closing input x.octets x.session) xs) ≡ closes input (λ n. n) (sessions_of xs)
@@ -164,12 +169,22 @@ module _ (settings : Settings) (input : ℕ) where
   pub open_so_far : (events : List Scripted) → open_keys (arrivals_in (run_of settings input events).marks) ≡ keys input (open_sessions (standing_after settings input events))
   open_so_far events = (run_right events).leads.still
 
-  pub few_open : (events : List Scripted) → length (open_keys (arrivals_in (run_of settings input events).marks)) ≤ 4096
-  few_open events =
-      let few = (run_right events).sound.few in
-      let same : length (open_keys (arrivals_in (run_of settings input events).marks)) ≡ length (open_sessions (standing_after settings input events)) =
-      ap length (open_so_far events) ∙ length-map (open_sessions (standing_after settings input events)) (key_of input) in
-      omega arith
+  all_keep : (given : List Scripted) → Keeps 4096 [] (arrivals_of settings input given)
+  all_keep given =
+      let r = run_of settings input (first_events settings.stop_after given) in
+      let p = run_right (first_events settings.stop_after given) in
+      let o = first_numbers r.standing.opened in
+      let close = leads_to_none input o (open_sessions r.standing) 0 r.standing.opened p.sound.rises in
+      let last = closes input (λ n. n) (open_sessions r.standing) in
+      let few = p.sound.few in
+      let same = length-map (open_sessions r.standing) (key_of input) in
+      subst (Keeps 4096 []) (sym (flat_map-append arrival_in r.marks (closings input r.standing) ∙ ap (λ l. arrivals_in r.marks ++ l) (closings_are r.standing)))
+      (keeps_then 4096 [] (arrivals_in r.marks) last p.keeps
+      (subst (λ k. Keeps 4096 k last) (sym p.leads.still) (keeps_quiet 4096 (keys input (open_sessions r.standing)) last (none_opened input o (open_sessions r.standing) [] last close) (omega arith))))
+
+  -- At most 4,096 sessions are open, before and after each arrival.
+  pub few_open : (given : List Scripted) (before after : List (Arrival (List ℕ))) → arrivals_of settings input given ≡ before ++ after → length (open_keys before) ≤ 4096
+  few_open given before after e = keeps_front 4096 [] before after (subst (Keeps 4096 []) e (all_keep given))
 
   pub few_opened : (events : List Scripted) → (standing_after settings input events).opened ≤ 2 ^ 32
   few_opened events = (run_right events).sound.room

@@ -119,3 +119,10 @@ first_numbers_below n zero le = refl
 first_numbers_below n (suc m) le =
     let other : (n == m) ≡ false = ne_eqb n m (λ (e : n ≡ m). omega arith) in
     list_any-append (λ k. n == k) (first_numbers m) (m ∷ []) ∙ (ap (λ b. b || ((n == m) || false)) (first_numbers_below n m (omega arith)) ∙ ap (λ b. b || false) other)
+
+bounded : (low high : ℕ) (ns : List ℕ) → Rises low ns high → low ≤ high
+bounded low high [] r = r
+bounded low high (n ∷ ns) r = let p = r.0 in let q = bounded (n + 1) high ns r.1 in omega arith
+
+pub below : (low k high : ℕ) (front rest : List ℕ) → Rises low (front ++ k ∷ rest) high → k + 1 ≤ high
+below low k high front rest r = bounded (k + 1) high rest (behind low high front (k ∷ rest) r).1

@@ -25,11 +25,11 @@ pub fn an_order_holds_from_front_to_front()
     ensures front { (before after : List (Arrival (List ℕ))) → are_in_order (before ++ after) ≡ true → are_in_order before ≡ true }
 {}
 
-/// After each event the sessions that arrived and are open are those that stand, in order of opening. They are at most
-/// 4,096, and at most 2^32 were opened.
+/// After each event the sessions that opened and are open are those that stand, in order of opening. At most 4,096 are
+/// open at any place among the arrivals, and at most 2^32 were opened.
 pub fn open_sessions_keep_their_limits()
     ensures open { (settings : Settings) (input : ℕ) (events : List Scripted) → open_keys (arrivals_in (run_of settings input events).marks) ≡ map (key_of input) (open_sessions (standing_after settings input events)) }
-    ensures few { (settings : Settings) (input : ℕ) (events : List Scripted) → length (open_keys (arrivals_in (run_of settings input events).marks)) ≤ 4096 }
+    ensures few { (settings : Settings) (input : ℕ) (given : List Scripted) (before after : List (Arrival (List ℕ))) → arrivals_of settings input given ≡ before ++ after → length (open_keys before) ≤ 4096 }
     ensures numbers { (settings : Settings) (input : ℕ) (events : List Scripted) → (standing_after settings input events).opened ≤ 2 ^ 32 }
 {}
 
