@@ -27,6 +27,7 @@ use Rattle.run_spec.specs.Touches.{dated, touches_before}
 use Rattle.run_spec.specs.Records.{Record, AreRecordsOf}
 use Rattle.run_spec.specs.Outcome.{DecodedSet, Outcome, by_definition, outcome, outcomes, outcomes_after, decoded_in, decoded_sets}
 use Rattle.run_spec.specs.Work.{Item}
+use Rattle.run_spec.specs.Outcome.SkipReason.{ReservedId, NoTemplate}
 use Rattle.run_spec.specs.Outcome.Outcome.{Touched, Skipped, Decoded}
 use Rattle.run_spec.specs.Work.Item.{Note, Data}
 use Rattle.run_spec.proofs.ReadLemmas.{one_more_read}
@@ -119,10 +120,10 @@ plans_printed definition id body old new p has printed same here pushed built =
 -- ---- data sets
 
 pub data_low : (domains : Domains) (domain id : ℕ) (body : List ℕ) (plan : PlannedMessage) → id < 256 → PlansData domains domain id body plan plan
-data_low domains domain id body plan low = (Skipped, λ settings past time parts s. part_low settings time id (touches_before (of_file settings) past domain ++ flat_map (dated File time) parts) body low, adds_none plan)
+data_low domains domain id body plan low = (Skipped ReservedId, λ settings past time parts s. part_low settings time id (touches_before (of_file settings) past domain ++ flat_map (dated File time) parts) body low, adds_none plan)
 
-pub data_unknown : (domains : Domains) (domain id : ℕ) (body : List ℕ) (plan : PlannedMessage) → templates_of domains domain id ≡ None → PlansData domains domain id body plan plan
-data_unknown domains domain id body plan none = (Skipped, λ settings past time parts s. part_unknown settings id body s none, adds_none plan)
+pub data_unknown : (domains : Domains) (domain id : ℕ) (body : List ℕ) (plan : PlannedMessage) → 256 ≤ id → templates_of domains domain id ≡ None → PlansData domains domain id body plan plan
+data_unknown domains domain id body plan high none = (Skipped NoTemplate, λ settings past time parts s. part_unknown settings id body s high none, adds_none plan)
 
 pub data_skipped : (domains : Domains) (domain id : ℕ) (body : List ℕ) (plan : PlannedMessage) (definition : Definition) → IsWellFormed definition → 256 ≤ id → templates_of domains domain id ≡ Some definition → HasNoRecords definition body
     → PlansData domains domain id body plan plan

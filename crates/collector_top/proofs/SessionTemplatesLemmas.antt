@@ -19,6 +19,7 @@ use Rattle.run_spec.specs.Domains.{is_among, kept_domains, with_domain}
 use Rattle.wire_spec.specs.WellFormed.{IsWellFormed}
 use Rattle.run_spec.specs.Records.{Record, AreRecordsOf, records_of}
 use Rattle.run_spec.specs.Outcome.{Outcome, by_records, by_definition, outcome, outcomes, decoded_in}
+use Rattle.run_spec.specs.Outcome.SkipReason.{ReservedId, NoTemplate}
 use Rattle.run_spec.specs.Outcome.Outcome.{Touched, Skipped, Empty, Decoded}
 use Rattle.run_spec.specs.Meaning.{IsOutcomeBy}
 use Rattle.run_spec.specs.Work.{outcomes_if}
@@ -225,23 +226,20 @@ pub part_found : {domains : Domains} {past : List Message} {time domain : ℕ} {
     → StandAmid domains past time domain parts → 256 ≤ id → templates_of domains domain id ≡ Some definition
     → outcome (of_file settings) time (touches_before (of_file settings) past domain ++ flat_map (dated File time) parts) (Body id body) ≡ by_definition id body (Some definition)
 part_found {domains} {past} {time} {domain} {parts} settings id definition body s le e =
-    ap (λ b. cond b Skipped (by_definition id body (last_touched (touches_before (of_file settings) past domain ++ flat_map (dated File time) parts) id))) (le-ltb id 256 le)
+    ap (λ b. cond b (Skipped ReservedId) (by_definition id body (last_touched (touches_before (of_file settings) past domain ++ flat_map (dated File time) parts) id))) (le-ltb id 256 le)
     ∙ ap (by_definition id body) (sym (amid_valid settings id s) ∙ e)
 
-skipped_both : (low : Bool) → cond low Skipped Skipped ≡ Skipped
-skipped_both true = refl
-skipped_both false = refl
-
--- One whose definition isn't found is skipped.
+-- One whose definition isn't found has no template.
 pub part_unknown : {domains : Domains} {past : List Message} {time domain : ℕ} {parts : List Part} (settings : Settings) (id : ℕ) (body : List ℕ)
-    → StandAmid domains past time domain parts → templates_of domains domain id ≡ None
-    → outcome (of_file settings) time (touches_before (of_file settings) past domain ++ flat_map (dated File time) parts) (Body id body) ≡ Skipped
-part_unknown {domains} {past} {time} {domain} {parts} settings id body s e =
-    ap (λ f. cond (nat_lt id 256) Skipped (by_definition id body f)) (sym (amid_valid settings id s) ∙ e) ∙ skipped_both (nat_lt id 256)
+    → StandAmid domains past time domain parts → 256 ≤ id → templates_of domains domain id ≡ None
+    → outcome (of_file settings) time (touches_before (of_file settings) past domain ++ flat_map (dated File time) parts) (Body id body) ≡ Skipped NoTemplate
+part_unknown {domains} {past} {time} {domain} {parts} settings id body s le e =
+    ap (λ b. cond b (Skipped ReservedId) (by_definition id body (last_touched (touches_before (of_file settings) past domain ++ flat_map (dated File time) parts) id))) (le-ltb id 256 le)
+    ∙ ap (by_definition id body) (sym (amid_valid settings id s) ∙ e)
 
--- So is one of an ID below those of Data Sets.
-pub part_low : (settings : Settings) (time id : ℕ) (touches : List (ℕ × Touch)) (body : List ℕ) → id < 256 → outcome (of_file settings) time touches (Body id body) ≡ Skipped
-part_low settings time id touches body lt = ap (λ b. cond b Skipped (by_definition id body (last_touched touches id))) (lt-ltb id 256 lt)
+-- One of an ID below those of Data Sets has a reserved one.
+pub part_low : (settings : Settings) (time id : ℕ) (touches : List (ℕ × Touch)) (body : List ℕ) → id < 256 → outcome (of_file settings) time touches (Body id body) ≡ Skipped ReservedId
+part_low settings time id touches body lt = ap (λ b. cond b (Skipped ReservedId) (by_definition id body (last_touched touches id))) (lt-ltb id 256 lt)
 
 -- The sets of a message whose domain is kept give what they give in order.
 pub amid_given : {domains : Domains} {past : List Message} (settings : Settings) (m : Message) (given : List Outcome) → StandAmid domains past m.export m.domain m.parts → outcomes (of_file settings) past m ≡ given
@@ -262,7 +260,7 @@ some_decoded definition id (r ∷ records) some = refl
 -- What a body is by a well-formed definition is what is computed of it.
 pub given_by : (definition : Definition) (id : ℕ) (body : List ℕ) (o : Outcome) → IsWellFormed definition → IsOutcomeBy definition id body o → by_definition id body (Some definition) ≡ o
 given_by definition id body Touched well is = absurd is
-given_by definition id body Skipped well is = ap (by_records id definition) (no_records definition body well is)
+given_by definition id body (Skipped reason) well is = ap (by_records id definition) (no_records definition body well is.1) ∙ ap Skipped (sym is.0)
 given_by definition id body Empty well is = ap (by_records id definition) (records_found definition body [] well (record { cut = is; each = tt }))
 given_by definition id body (Decoded d) well is = ap (by_records id definition) (records_found definition body d.records well is.1) ∙ (some_decoded definition id d.records is.2 ∙ ap Decoded (sym is.0))
 

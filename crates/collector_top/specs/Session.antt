@@ -93,7 +93,7 @@ pub record TakesSet (raw : RawSet) (domain : ℕ) (old new : Domains) (before af
   pub gives : GivesOutcome old domain part given
   pub adds : AddsSets before after (decoded_in given)
 
--- from a message on whose domain is kept, its sets give this
+-- the sets of a message whose domain is kept give this
 abbrev pub GivesOutcomes : Domains → ℕ → List Part → List Outcome → Type 0
 GivesOutcomes domains domain parts given = (settings : Settings) (past : List Message) (time : ℕ) → StandAmid domains past time domain []
     → outcomes_after (of_file settings) time (touches_before (of_file settings) past domain) parts ≡ given

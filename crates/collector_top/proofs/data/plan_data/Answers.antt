@@ -1,8 +1,11 @@
-use Rattle.collector_top.proofs.PlanLemmas.{data_unknown, data_skipped, data_planned}
+use Rattle.collector_top.proofs.PlanLemmas.{data_low, data_unknown, data_skipped, data_planned}
 use Rattle.collector_top.proofs.data.plan_data.Goals as goal
 
+pub returns-then-set-lt-DATA_SET : goal.returns-then-set-lt-DATA_SET
+returns-then-set-lt-DATA_SET c = data_low c.args.domains.now c.args.domain c.args.set.id c.args.set.body.now c.args.plan.now c.if-set-lt-DATA_SET.true
+
 pub returns-in_default : goal.returns-in_default
-returns-in_default c = data_unknown c.args.domains.now c.args.domain c.args.set.id c.args.set.body.now c.args.plan.now c.in_default.ensures.found
+returns-in_default c = data_unknown c.args.domains.now c.args.domain c.args.set.id c.args.set.body.now c.args.plan.now c.if-set-lt-DATA_SET.false c.in_default.ensures.found
 
 pub returns-then-not-has_records : goal.returns-then-not-has_records
 returns-then-not-has_records c = data_skipped c.args.domains.now c.args.domain c.args.set.id c.args.set.body.now c.args.plan.now c.in-Some.definition.now.value c.in-Some.ensures.well_formed c.if-set-lt-DATA_SET.false c.in-Some.ensures.found (rw c.deref.ensures at c.if-not-has_records.ensures)
