@@ -2,8 +2,7 @@
 use Rattle.std.proofs.Common.{◌≢◌, ℕ, inl, inr, List, [], map, Option, refl, sym, ◌∙◌}
 use Rattle.std.specs.Prelude.{Result, Ok, Err}
 use Rattle.arrival_spec.specs.declared.event.Scripted.{Scripted}
-use Rattle.run_spec.specs.Decode.{DecodedSet}
-use Rattle.run_spec.specs.Result.{IsFileText}
+use Rattle.run_spec.specs.Outcome.{DecodedSet}
 use Rattle.site_io.specs.Writes.{Grows}
 use Rattle.site_io.specs.declared.outside.OutsideFault.{OutsideFault}
 use Rattle.collector_top.specs.declared.planned.PlannedMessage.{PlannedMessage}
@@ -12,7 +11,7 @@ use Rattle.collector_top.specs.declared.reading.ReadEnd.TheVariants as end
 use Rattle.collector_top.specs.declared.reading.Reading.{Reading}
 use Rattle.collector_top.specs.declared.direct.Outcome.TheVariants as outcome
 use Rattle.collector_top.specs.Reading.{TakenFrom, Gives, ReadsAs, reading_of}
-use Rattle.collector_top.specs.Built.{IsBuilt, sets_of}
+use Rattle.collector_top.specs.Built.{IsFileText, IsBuilt, sets_of}
 use Rattle.collector_top.specs.Session.{AreAllPlanned, IsNotPlanned, IsAllPlanned}
 use Rattle.collector_top.specs.Put.{PutsText}
 use Rattle.collector_top.specs.Direct.{EndsReading, Comes}

@@ -1,26 +1,26 @@
 -- What was read and planned is what the file's events are decoded to.
 use Rattle.std.proofs.Common.{◌≡◌, ◌≢◌, ℕ, ◌+◌, Bool, true, false, cond, List, [], ◌∷◌, ◌++◌, inl, inr, length, map, refl, ap, sym, subst, ◌∙◌, arith, append_assoc, append-nil, length-append}
-use Rattle.std.specs.Prelude.{fold, flat_map, nat_eq, Result}
+use Rattle.std.specs.Prelude.{fold, flat_map, nat_eq}
 use Rattle.std.specs.List.{AllByRecursion, concat}
 use Rattle.std.proofs.lemmas.Bool.{cases_Bool, eqb-true}
 use Rattle.col_base.specs.declared.base.Transport.TheVariants.{File}
 use Rattle.wire_spec.specs.Stream.{IsFramed, IsCut}
-use Rattle.wire_spec.specs.declared.malformed.Malformed.{Malformed}
-use Rattle.wire_spec.specs.Content.{Message}
 use Rattle.arrival_spec.specs.declared.event.Scripted.{Scripted}
 use Rattle.arrival_spec.specs.declared.event.Scripted.TheVariants as event
 use Rattle.arrival_spec.specs.Events.{events_of}
 use Rattle.arrival_spec.specs.OneStream.{IsOneStream, one_session}
 use Rattle.arrival_spec.specs.Arrival.{Arrival}
-use Rattle.arrival_spec.specs.Sessions.{AreArrivals, nothing_yet}
-use Rattle.arrival_spec.proofs.OneStream.{nothing_arrives, one_stream_arrives}
-use Rattle.arrival_spec.proofs.UniqueLemmas.{one_list_of_arrivals}
-use Rattle.run_spec.specs.Decode.{DecodedSet, Item, AreDecodedTo}
-use Rattle.run_spec.specs.Decode.Item.{Note, Tick, Data}
-use Rattle.run_spec.specs.OneSession.{AreReadings, AreItemsInOrder}
-use Rattle.run_spec.proofs.OneSession.{session_decoded}
-use Rattle.run_spec.proofs.UniqueLemmas.{one_decoding}
-use Rattle.run_spec.specs.Result.{sets_text, item_text, default_life, IsFileText}
+use Rattle.arrival_spec.specs.Arrival.Arrival.{SessionClose}
+use Rattle.arrival_spec.specs.Mark.{arrivals_in}
+use Rattle.arrival_spec.specs.Run.{run_of, ended, arrivals_of}
+use Rattle.arrival_spec.proofs.OneStream.{one_stream_arrives}
+use Rattle.run_spec.specs.Read.{ReadArrival, AreReadAs}
+use Rattle.run_spec.specs.Outcome.{DecodedSet}
+use Rattle.run_spec.specs.Work.{Item, items_of, AreDecodedTo}
+use Rattle.run_spec.specs.Work.Item.{Note, Tick, Data}
+use Rattle.run_spec.specs.Result.{sets_text, item_text}
+use Rattle.run_spec.proofs.ReadLemmas.{one_more_read, one_list_of_items}
+use Rattle.run_spec.proofs.MoreLemmas.{one_more_item}
 use Rattle.text_spec.specs.Builtin.{builtin_rows}
 use Rattle.collector_top.specs.declared.planned.PlannedSet.{PlannedSet}
 use Rattle.collector_top.specs.declared.planned.PlannedMessage.{PlannedMessage}
@@ -29,8 +29,8 @@ use Rattle.collector_top.specs.Printed.{IsPrinted}
 use Rattle.collector_top.specs.declared.reading.Phase.{Phase}
 use Rattle.collector_top.specs.declared.reading.Phase.TheVariants as phase
 use Rattle.collector_top.specs.Reading.{Stream, ReadsAs, before_all, after_event, reading_of}
-use Rattle.collector_top.specs.Built.{AreOfOneStream, IsPrintedItem, IsBuilt, sets_of}
-use Rattle.collector_top.specs.Session.{file_key, ArePlanned, AreAllPlanned, PlansSession}
+use Rattle.collector_top.specs.Built.{file_settings, IsFileText, AreOfOneStream, IsPrintedItem, IsBuilt, sets_of}
+use Rattle.collector_top.specs.Session.{file_key, ArePlanned, AreAllPlanned, files, session_of, AreItemsOf, PlansSession}
 use Rattle.collector_top.proofs.PutLemmas.{text_of}
 
 -- what a reading says of the events that were read
@@ -106,10 +106,8 @@ stands given = all_stand given before_all [] (refl, refl)
 record IsDecodedFile (given : List Scripted) (items : List Item) : Type 0 where
   pieces : List (List ℕ)
   events : AreOfOneStream (events_of given) pieces
-  arrivals : List (Arrival (List ℕ))
-  arrive : AreArrivals 0 File given arrivals
   all : List Item
-  decoded : AreDecodedTo File default_life arrivals all
+  decoded : AreDecodedTo (λ input. file_settings) (arrivals_of file_settings 0 given) all
   text : text_of (map sets_of items) ≡ flat_map (item_text true builtin_rows) all
   printed : AllByRecursion IsPrintedItem items → AllByRecursion IsPrintedItem all
   only : AllByRecursion IsPrintedItem all → AllByRecursion IsPrintedItem items
@@ -138,55 +136,67 @@ no_messages (m ∷ messages) rest each e =
     let z : 0 ≡ length ((m ++ concat messages) ++ rest) = ap (λ x. length x) e in
     absurd (omega arith)
 
-no_items : (readings : List (Result Message Malformed)) (items : List Item) → AreReadings [] readings → AreItemsInOrder File default_life file_key [] readings items → items ≡ []
-no_items [] [] r d = refl
-no_items [] (i ∷ items) r d = absurd d
-no_items (x ∷ readings) items r d = absurd r
+-- the items of a session's messages, read so
+abbrev IsDecodedSession : List (List ℕ) → List ReadArrival → List Item → Type 0
+IsDecodedSession messages read items = AreReadAs (session_of messages) read × AreItemsOf read items
+
+-- of no message there is no item
+no_items : (read : List ReadArrival) (items : List Item) → AreReadAs (session_of []) read → AreItemsOf read items → items ≡ []
+no_items [] items r d = absurd r
+no_items (x ∷ []) items r d = let note = ap (λ (a : ReadArrival). items_of (files file_settings) (a ∷ [])) (sym r.0) in let e = note ∙ d file_settings in cc
+no_items (x ∷ y ∷ read) items r d = absurd r.1
 
 -- a file without events
-empty_decoded : (given : List Scripted) (octets rest : List ℕ) (messages : List (List ℕ)) (readings : List (Result Message Malformed)) (items : List Item) → events_of given ≡ [] → octets ≡ [] → IsCut octets messages rest → AreReadings messages readings
-    → AreItemsInOrder File default_life file_key [] readings items → IsDecodedFile given items
-empty_decoded given octets rest messages readings items none empty cut read decode =
+empty_decoded : (given : List Scripted) (octets rest : List ℕ) (messages : List (List ℕ)) (read : List ReadArrival) (items : List Item) → events_of given ≡ [] → octets ≡ [] → IsCut octets messages rest → IsDecodedSession messages read items
+    → IsDecodedFile given items
+empty_decoded given octets rest messages read items none empty cut d =
     let messages_none : messages ≡ [] = no_messages messages rest cut.each (sym empty ∙ cut.whole) in
-    let items_none : items ≡ [] = no_items readings items (subst (λ (l : List (List ℕ)). AreReadings l readings) messages_none read) decode in
+    let items_none : items ≡ [] = no_items read items (subst (λ (l : List (List ℕ)). AreReadAs (session_of l) read) messages_none d.0) d.1 in
+    let out : List Scripted → List (Arrival (List ℕ)) = λ events. arrivals_in (ended 0 (run_of file_settings 0 events)) in
     let nothing : IsDecodedFile given [] = record {
       pieces = [];
       events = inl (none, refl);
-      arrivals = [];
-      arrive = nothing_arrives 0 File given none;
       all = [];
-      decoded = ([], tt, tt);
+      decoded = subst (λ (l : List (Arrival (List ℕ))). AreDecodedTo (λ input. file_settings) l []) (sym (ap out none)) ([], tt, refl);
       text = refl;
       printed = λ p. p;
       only = λ p. p;
     } in
     subst (λ (l : List Item). IsDecodedFile given l) (sym items_none) nothing
 
+-- the session closes behind its messages
+closed_decoded : (messages : List (List ℕ)) (read : List ReadArrival) (items : List Item) → IsDecodedSession messages read items
+    → AreDecodedTo (λ input. file_settings) (one_session 0 File messages) (Note file_key File true ∷ items ++ Note file_key File false ∷ [])
+closed_decoded messages read items d = (
+  read ++ SessionClose file_key ∷ [],
+  one_more_read (session_of messages) read (SessionClose file_key) (SessionClose file_key) d.0 refl,
+  sym (one_more_item (files file_settings) read (SessionClose file_key) ∙ ap (λ (l : List Item). l ++ Note file_key File false ∷ []) (d.1 file_settings)),
+)
+
 -- a file of one stream
-stream_decoded : (given : List Scripted) (octets rest : List ℕ) (pieces messages : List (List ℕ)) (readings : List (Result Message Malformed)) (items : List Item) → IsOneStream (events_of given) pieces → octets ≡ concat pieces
-    → IsCut octets messages rest → AreReadings messages readings → AreItemsInOrder File default_life file_key [] readings items → IsDecodedFile given items
-stream_decoded given octets rest pieces messages readings items one joined cut read decode = record {
+stream_decoded : (given : List Scripted) (octets rest : List ℕ) (pieces messages : List (List ℕ)) (read : List ReadArrival) (items : List Item) → IsOneStream (events_of given) pieces → octets ≡ concat pieces
+    → IsCut octets messages rest → IsDecodedSession messages read items → IsDecodedFile given items
+stream_decoded given octets rest pieces messages read items one joined cut d = record {
   pieces = pieces;
   events = inr one;
-  arrivals = one_session 0 File messages;
-  arrive = one_stream_arrives 0 File given pieces messages rest one (subst (λ (s : List ℕ). IsCut s messages rest) joined cut);
   all = Note file_key File true ∷ items ++ Note file_key File false ∷ [];
-  decoded = session_decoded File default_life file_key messages readings items read decode;
+  decoded = subst (λ (l : List (Arrival (List ℕ))). AreDecodedTo (λ input. file_settings) l (Note file_key File true ∷ items ++ Note file_key File false ∷ []))
+      (sym (one_stream_arrives file_settings 0 refl given pieces messages rest refl one (subst (λ (s : List ℕ). IsCut s messages rest) joined cut))) (closed_decoded messages read items d);
   text = items_text items (Note file_key File false) refl;
   printed = λ p. (tt, printed_more items (Note file_key File false) tt p);
   only = λ p. printed_front items (Note file_key File false ∷ []) p.1;
 }
 
-decoded_by : (ph : Phase) (given : List Scripted) (octets rest : List ℕ) (messages : List (List ℕ)) (readings : List (Result Message Malformed)) (items : List Item) → ph ≢ phase.Strange → StandsFor ph octets (events_of given)
-    → IsCut octets messages rest → AreReadings messages readings → AreItemsInOrder File default_life file_key [] readings items → IsDecodedFile given items
-decoded_by phase.Before given octets rest messages readings items ne s cut read decode = empty_decoded given octets rest messages readings items s.0 s.1 cut read decode
-decoded_by phase.Open given octets rest messages readings items ne s cut read decode = stream_decoded given octets rest s.0 messages readings items (inl s.1) s.2 cut read decode
-decoded_by phase.Closed given octets rest messages readings items ne s cut read decode = stream_decoded given octets rest s.0 messages readings items (inr s.1) s.2 cut read decode
-decoded_by phase.Strange given octets rest messages readings items ne s cut read decode = absurd (ne refl)
+decoded_by : (ph : Phase) (given : List Scripted) (octets rest : List ℕ) (messages : List (List ℕ)) (read : List ReadArrival) (items : List Item) → ph ≢ phase.Strange → StandsFor ph octets (events_of given)
+    → IsCut octets messages rest → IsDecodedSession messages read items → IsDecodedFile given items
+decoded_by phase.Before given octets rest messages read items ne s cut d = empty_decoded given octets rest messages read items s.0 s.1 cut d
+decoded_by phase.Open given octets rest messages read items ne s cut d = stream_decoded given octets rest s.0 messages read items (inl s.1) s.2 cut d
+decoded_by phase.Closed given octets rest messages read items ne s cut d = stream_decoded given octets rest s.0 messages read items (inr s.1) s.2 cut d
+decoded_by phase.Strange given octets rest messages read items ne s cut d = absurd (ne refl)
 
 file_decoded : (given : List Scripted) (r : Reading) (planned : List PlannedMessage) (built : Bool) → ReadsAs r (reading_of given) → r.phase ≢ phase.Strange → (p : PlansSession r.messages.items planned built) → IsDecodedFile given p.items
 file_decoded given r planned built reads ne p =
-    decoded_by (reading_of given).phase given (reading_of given).octets reads.cut.0 r.messages.items p.readings p.items (λ e. ne (reads.same ∙ e)) (stands given) reads.cut.1 p.read (p.decode default_life)
+    decoded_by (reading_of given).phase given (reading_of given).octets reads.cut.0 r.messages.items p.read p.items (λ e. ne (reads.same ∙ e)) (stands given) reads.cut.1 (p.reads, p.decode)
 
 -- what is planned is printed
 set_printed : (planned : List PlannedSet) (decoded : List DecodedSet) → ArePlanned planned decoded → AllByRecursion (λ d. IsPrinted d.definition) decoded
@@ -205,18 +215,17 @@ all_printed (x ∷ planned) (i ∷ items) p = (set_printed x.sets.items (sets_of
 pub file_text : (given : List Scripted) (r : Reading) (planned : List PlannedMessage) → ReadsAs r (reading_of given) → r.phase ≢ phase.Strange → (p : PlansSession r.messages.items planned true) → IsFileText given (text_of (map sets_of p.items))
 file_text given r planned reads ne p =
     let d = file_decoded given r planned true reads ne p in
-    record { arrivals = d.arrivals; arrive = d.arrive; items = d.all; decoded = d.decoded; is = d.text }
+    (d.all, d.decoded, d.text)
 
 -- And the file is built.
 pub file_built : (given : List Scripted) (r : Reading) (planned : List PlannedMessage) → ReadsAs r (reading_of given) → r.phase ≢ phase.Strange → PlansSession r.messages.items planned true → IsBuilt given
 file_built given r planned reads ne p =
     let d = file_decoded given r planned true reads ne p in
-    record { pieces = d.pieces; events = d.events; arrivals = d.arrivals; arrive = d.arrive; items = d.all; decoded = d.decoded; printed = d.printed (all_printed planned p.items (p.are refl)) }
+    record { pieces = d.pieces; events = d.events; items = d.all; decoded = d.decoded; printed = d.printed (all_printed planned p.items (p.are refl)) }
 
 -- A file of which not all is planned is not built.
 pub file_not_built : (given : List Scripted) (r : Reading) (planned : List PlannedMessage) → ReadsAs r (reading_of given) → r.phase ≢ phase.Strange → PlansSession r.messages.items planned false → IsBuilt given → ⊥
 file_not_built given r planned reads ne p b =
     let d = file_decoded given r planned false reads ne p in
-    let arrivals : b.arrivals ≡ d.arrivals = one_list_of_arrivals 0 File nothing_yet given b.arrivals d.arrivals b.arrive d.arrive in
-    let items : b.items ≡ d.all = one_decoding File default_life d.arrivals b.items d.all (subst (λ (l : List (Arrival (List ℕ))). AreDecodedTo File default_life l b.items) arrivals b.decoded) d.decoded in
+    let items : b.items ≡ d.all = one_list_of_items (λ input. file_settings) (arrivals_of file_settings 0 given) b.items d.all b.decoded d.decoded in
     p.other refl (d.only (subst (λ (l : List Item). AllByRecursion IsPrintedItem l) items b.printed))

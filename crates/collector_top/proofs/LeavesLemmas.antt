@@ -2,7 +2,6 @@
 use Rattle.std.proofs.Common.{◌≡◌, ℕ, inl, inr, List, [], ◌++◌, Option, Some, None, refl, ap, sym, subst, ◌∙◌, append-nil}
 use Rattle.std.specs.Prelude.{IfSome, IsSome}
 use Rattle.arrival_spec.specs.declared.event.Scripted.{Scripted}
-use Rattle.run_spec.specs.Result.{IsFileText}
 use Rattle.site_io.specs.Seen.{PlaceSeen, SinkSeen}
 use Rattle.site_io.specs.Writes.{Grows}
 use Rattle.collector_top.specs.declared.reading.ReadEnd.{ReadEnd}
@@ -10,6 +9,7 @@ use Rattle.collector_top.specs.declared.reading.ReadEnd.TheVariants as end
 use Rattle.collector_top.specs.declared.direct.Outcome.{Outcome}
 use Rattle.collector_top.specs.declared.direct.Outcome.TheVariants as outcome
 use Rattle.collector_top.specs.Reading.{TakenFrom, IsNothingLeft}
+use Rattle.collector_top.specs.Built.{IsFileText}
 use Rattle.collector_top.specs.Direct.{EndsReading, Comes, Holds, HoldsText, HoldsFront, LeavesAfter}
 
 -- what was taken from a source was taken from its place

@@ -1,9 +1,10 @@
 -- What is planned of a session: records, data sets, sets, messages.
 use Rattle.std.proofs.Common.{◌≡◌, ℕ, ◌+◌, ◌<◌, ◌≤◌, Bool, true, false, ◌&&◌, List, [], ◌∷◌, ◌++◌, take, drop, get_or, map, length, Some, None, refl, ap, sym, subst, ◌∙◌, arith, append-nil, take_all}
-use Rattle.std.specs.Prelude.{Result, Ok, Err, flat_map, fold}
+use Rattle.std.specs.Prelude.{Ok, Err, flat_map}
 use Rattle.std.specs.List.{AllByRecursion, list_all}
 use Rattle.std.proofs.lemmas.Bool.{ne_eqb, and_parts}
-use Rattle.std.proofs.lemmas.List.{take_more}
+use Rattle.std.proofs.lemmas.List.{map-append, take_more}
+use Rattle.std.proofs.lemmas.List.Concat.{flat_map-append}
 use Rattle.col_base.specs.declared.base.Transport.TheVariants.{File}
 use Rattle.col_base.specs.Numbers.{be32_at}
 use Rattle.wire_spec.specs.declared.field.FieldSpec.{FieldSpec}
@@ -16,19 +17,29 @@ use Rattle.wire_spec.proofs.RecordLemmas.{one_list}
 use Rattle.ipfix_reader.specs.declared.raw.RawSet.{RawSet}
 use Rattle.ipfix_reader.specs.Walk.{RawSays, GivesSet, IsSomeMessage, message_of}
 use Rattle.ipfix_reader.proofs.WalkLemmas.{body_said, said_none, said_more, said_all}
-use Rattle.run_spec.specs.Judge.{dated, touches_before}
-use Rattle.run_spec.specs.Decode.{Record, DecodedSet, Item, AreRecordsOf, AreDecoded}
-use Rattle.run_spec.specs.OneSession.{with_reading}
-use Rattle.run_spec.proofs.OneDomain.{are_decoded-more}
-use Rattle.run_spec.proofs.OneSession.{readings-more, in_order-more}
+use Rattle.wire_spec.specs.WellFormed.{IsWellFormed}
+use Rattle.arrival_spec.specs.Settings.{Settings}
+use Rattle.arrival_spec.specs.Arrival.{Arrival}
+use Rattle.arrival_spec.specs.Arrival.Arrival.{SessionOpen, Raw}
+use Rattle.run_spec.specs.Read.{ReadArrival, AreReadAs}
+use Rattle.run_spec.specs.Judge.{message_of as session_message, messages_of}
+use Rattle.run_spec.specs.Touches.{dated, touches_before}
+use Rattle.run_spec.specs.Records.{Record, AreRecordsOf}
+use Rattle.run_spec.specs.Outcome.{DecodedSet, Outcome, by_definition, outcome, outcomes, outcomes_after, decoded_in, decoded_sets}
+use Rattle.run_spec.specs.Work.{Item}
+use Rattle.run_spec.specs.Outcome.SkipReason.{ReservedId, NoTemplate}
+use Rattle.run_spec.specs.Outcome.Outcome.{Touched, Skipped, Decoded}
+use Rattle.run_spec.specs.Work.Item.{Note, Data}
+use Rattle.run_spec.proofs.ReadLemmas.{one_more_read}
+use Rattle.run_spec.proofs.MoreLemmas.{malformed_none, one_more_outcome, one_more_item}
 use Rattle.collector_top.specs.declared.domains.Domains.{Domains}
 use Rattle.collector_top.specs.declared.planned.PlannedSet.{PlannedSet}
 use Rattle.collector_top.specs.declared.planned.PlannedMessage.{PlannedMessage}
 use Rattle.collector_top.specs.Printed.{IsPrinted}
 use Rattle.collector_top.specs.Built.{IsPrintedItem, sets_of}
-use Rattle.collector_top.specs.SessionTemplates.{is_kept, templates_of, Admits, AreTouched, StandFor, StandAmid}
-use Rattle.collector_top.specs.Session.{file_key, IsPlanned, ArePlanned, AreAllPlanned, ArePrinted, SetsStand, AddsSets, HasRecords, HasNoRecords, PlansRecords, PlansData, TakesSet, PlansSoFar, PlansMessage, item_of, PlansNext, AllStand, PlansMessages, PlansUpTo, PlansSession}
-use Rattle.collector_top.proofs.SessionTemplatesLemmas.{stand_admitted, stand_crowded, stand_touched, stand_body, stand_later, part_found, part_unknown, part_low, amid_decoded, crowded_decoded}
+use Rattle.collector_top.specs.SessionTemplates.{of_file, is_kept, templates_of, Admits, AreTouched, StandFor, StandAmid}
+use Rattle.collector_top.specs.Session.{file_key, IsPlanned, ArePlanned, AreAllPlanned, ArePrinted, SetsStand, AddsSets, HasRecords, HasNoRecords, PlansRecords, PlansData, TakesSet, PlansSoFar, PlansMessage, files, next_item, PlansNext, AllStand, session_of, PlansMessages, PlansUpTo, PlansSession}
+use Rattle.collector_top.proofs.SessionTemplatesLemmas.{stand_admitted, stand_crowded, stand_touched, stand_body, stand_later, part_found, part_unknown, part_low, amid_given, crowded_given, given_by, none_decoded}
 
 -- ---- records
 
@@ -94,35 +105,38 @@ adds_printed old new p d pushed same is decoded s = record {
   other = λ e q. s.other (sym same ∙ e) (printed_append decoded (d ∷ []) q).0;
 }
 
-decoded_as : (definition : Definition) (id : ℕ) (body : List ℕ) → HasRecords definition body → DecodedSet
-decoded_as definition id body has = record { id = id; definition = definition; records = has.0 }
-
 pub plans_unprinted : (definition : Definition) (id : ℕ) (body : List ℕ) (plan : PlannedMessage) → HasRecords definition body → (IsPrinted definition → ⊥) → PlansRecords definition id body plan (record plan { is_built = false })
 plans_unprinted definition id body plan has none =
     let d : DecodedSet = record { id = id; definition = definition; records = has.0 } in
-    (d ∷ [], (refl, has.1, has.2), adds_unprinted plan (d ∷ []) (λ p. none p.0))
+    (Decoded d, (refl, has.1, has.2), adds_unprinted plan (d ∷ []) (λ p. none p.0))
 
 pub plans_printed : (definition : Definition) (id : ℕ) (body : List ℕ) (old new : PlannedMessage) (p : PlannedSet) → HasRecords definition body → IsPrinted definition → definition ≡ p.definition.value → p.body.now ≡ body
     → new.sets.items ≡ old.sets.items ++ p ∷ [] → new.is_built ≡ old.is_built → PlansRecords definition id body old new
 plans_printed definition id body old new p has printed same here pushed built =
     let d : DecodedSet = record { id = id; definition = definition; records = has.0 } in
     let is : IsPlanned p d = record { definition = same; printed = printed; records = subst (λ (o : List ℕ). AreRecordsOf definition o has.0) (sym here) has.1 } in
-    (d ∷ [], (refl, has.1, has.2), adds_printed old new p d pushed built is)
+    (Decoded d, (refl, has.1, has.2), adds_printed old new p d pushed built is)
 
 -- ---- data sets
 
 pub data_low : (domains : Domains) (domain id : ℕ) (body : List ℕ) (plan : PlannedMessage) → id < 256 → PlansData domains domain id body plan plan
-data_low domains domain id body plan low = ([], λ life past time parts s. part_low life time id (touches_before File life past domain ++ flat_map (dated time) parts) body low, adds_none plan)
+data_low domains domain id body plan low = (Skipped ReservedId, λ settings past time parts s. part_low settings time id (touches_before (of_file settings) past domain ++ flat_map (dated File time) parts) body low, adds_none plan)
 
-pub data_unknown : (domains : Domains) (domain id : ℕ) (body : List ℕ) (plan : PlannedMessage) → templates_of domains domain id ≡ None → PlansData domains domain id body plan plan
-data_unknown domains domain id body plan none = ([], λ life past time parts s. part_unknown life id body s none, adds_none plan)
+pub data_unknown : (domains : Domains) (domain id : ℕ) (body : List ℕ) (plan : PlannedMessage) → 256 ≤ id → templates_of domains domain id ≡ None → PlansData domains domain id body plan plan
+data_unknown domains domain id body plan high none = (Skipped NoTemplate, λ settings past time parts s. part_unknown settings id body s high none, adds_none plan)
 
-pub data_skipped : (domains : Domains) (domain id : ℕ) (body : List ℕ) (plan : PlannedMessage) (definition : Definition) → 256 ≤ id → templates_of domains domain id ≡ Some definition → HasNoRecords definition body → PlansData domains domain id body plan plan
-data_skipped domains domain id body plan definition high found none = ([], λ life past time parts s. part_found life id definition body [] s high found none, adds_none plan)
+pub data_skipped : (domains : Domains) (domain id : ℕ) (body : List ℕ) (plan : PlannedMessage) (definition : Definition) → IsWellFormed definition → 256 ≤ id → templates_of domains domain id ≡ Some definition → HasNoRecords definition body
+    → PlansData domains domain id body plan plan
+data_skipped domains domain id body plan definition well high found none = (
+  by_definition id body (Some definition),
+  λ settings past time parts s. part_found settings id definition body s high found,
+  subst (λ (l : List DecodedSet). AddsSets plan plan l) (sym (none_decoded definition id body well none)) (adds_none plan),
+)
 
-pub data_planned : (domains : Domains) (domain id : ℕ) (body : List ℕ) (old new : PlannedMessage) (definition : Definition) → 256 ≤ id → templates_of domains domain id ≡ Some definition → PlansRecords definition id body old new
+pub data_planned : (domains : Domains) (domain id : ℕ) (body : List ℕ) (old new : PlannedMessage) (definition : Definition) → IsWellFormed definition → 256 ≤ id → templates_of domains domain id ≡ Some definition → PlansRecords definition id body old new
     → PlansData domains domain id body old new
-data_planned domains domain id body old new definition high found p = (p.0, λ life past time parts s. part_found life id definition body p.0 s high found p.1, p.2)
+data_planned domains domain id body old new definition well high found p =
+    (p.0, λ settings past time parts s. part_found settings id definition body s high found ∙ given_by definition id body p.0 well p.1, p.2)
 
 -- ---- sets
 
@@ -136,8 +150,8 @@ takes_templates raw domain old new plan touches kept says t = record {
   says = says;
   kept = t.kept domain ∙ kept;
   stand = λ past time parts s. stand_touched touches s t;
-  decoded = [];
-  decodes = λ life past time parts s. refl;
+  given = Touched;
+  gives = λ settings past time parts s. refl;
   adds = adds_none plan;
 }
 
@@ -149,8 +163,8 @@ takes_data raw domain domains old new kept two three p = record {
   says = body_said raw (no_templates raw.id two three);
   kept = kept;
   stand = λ past time parts s. stand_body raw.id raw.body.now s;
-  decoded = p.0;
-  decodes = p.1;
+  given = p.0;
+  gives = p.1;
   adds = p.2;
 }
 
@@ -163,10 +177,13 @@ planned_none octets rest domain domains plan same kept none built = record {
   said = rw same (said_none octets);
   kept = kept;
   stand = λ past time s. s;
-  decoded = [];
-  decodes = λ life past time s. refl;
+  given = [];
+  gives = λ settings past time s. refl;
   planned_so = record { are = λ e. rw none tt; other = λ e p. absurd (let f = sym built ∙ e in cc) };
 }
+
+decoded_more : (given : List Outcome) (o : Outcome) → decoded_sets (given ++ o ∷ []) ≡ decoded_sets given ++ decoded_in o
+decoded_more given o = flat_map-append decoded_in given (o ∷ []) ∙ ap (λ l. decoded_sets given ++ l) (append-nil (decoded_in o))
 
 -- one set more
 pub planned_more : (octets old new : List ℕ) (at to domain : ℕ) (raw : RawSet) (before domains after : Domains) (plan next : PlannedMessage) → PlansSoFar octets old domain before domains plan → GivesSet at old (Some raw) to new
@@ -176,9 +193,13 @@ planned_more octets old new at to domain raw before domains after plan next p g 
   said = said_more new to raw t.part p.said g t.says;
   kept = t.kept;
   stand = λ past time s. t.stand past time p.parts (p.stand past time s);
-  decoded = p.decoded ++ t.decoded;
-  decodes = λ life past time s. are_decoded-more File life time (touches_before File life past domain) p.parts p.decoded t.part t.decoded (p.decodes life past time s) (t.decodes life past time p.parts (p.stand past time s));
-  planned_so = t.adds p.decoded p.planned_so;
+  given = p.given ++ t.given ∷ [];
+  gives = λ settings past time s.
+      let touches = touches_before (of_file settings) past domain in
+      one_more_outcome (of_file settings) time touches p.parts t.part
+      ∙ (ap (λ l. l ++ outcome (of_file settings) time (touches ++ flat_map (dated File time) p.parts) t.part ∷ []) (p.gives settings past time s)
+      ∙ ap (λ o. p.given ++ o ∷ []) (t.gives settings past time p.parts (p.stand past time s)));
+  planned_so = subst (λ (l : List DecodedSet). SetsStand next l) (sym (decoded_more p.given t.given)) (t.adds (decoded_sets p.given) p.planned_so);
 }
 
 -- all sets
@@ -188,8 +209,8 @@ planned_all octets old new at to domain before domains plan w p g = record {
   parts = p.parts;
   says = said_all new to w p.said g;
   stand = p.stand;
-  decoded = p.decoded;
-  decodes = p.decodes;
+  given = p.given;
+  gives = p.gives;
   planned_so = p.planned_so;
 }
 
@@ -202,11 +223,15 @@ pub next_malformed : (octets : List ℕ) (domains : Domains) (fault : Malformed)
 next_malformed octets domains fault plan first none built = record {
   reading = Err fault;
   reads = first;
-  stand = λ past s. s;
-  decoded = [];
-  decodes = λ life past s. refl;
+  stand = λ before s. subst (λ (l : List Message). StandFor domains l) (sym (malformed_none file_key file_key before fault)) s;
+  item = Data file_key 0 0 0 [];
+  gives = λ settings before s. refl;
   planned_so = empty_stands plan none built;
 }
+
+-- a well-formed message comes behind the others of the session
+messages_more : (before : List ReadArrival) (m : Message) → messages_of file_key (before ++ Raw file_key (Ok m) ∷ []) ≡ messages_of file_key before ++ m ∷ []
+messages_more before m = flat_map-append (session_message file_key) before (Raw file_key (Ok m) ∷ [])
 
 -- a message of a domain that is kept
 pub next_taken : (octets : List ℕ) (domain : ℕ) (old admitted new : Domains) (plan : PlannedMessage) → domain ≡ be32_at 12 octets → Admits old domain true admitted → PlansMessage octets domain admitted new plan → PlansNext octets old new plan
@@ -214,17 +239,15 @@ next_taken octets domain old admitted new plan here a p =
     let m : Message = message_of octets p.parts in
     let amid : (past : List Message) → StandFor old past → StandAmid new past m.export m.domain m.parts =
     λ past s. subst (λ d. StandAmid new past m.export d m.parts) here (p.stand past m.export (stand_admitted m.export s a refl)) in
+    let given : (settings : Settings) (past : List Message) → StandFor old past → outcomes (of_file settings) past m ≡ p.given =
+    λ settings past s. subst (λ d. outcomes_after (of_file settings) m.export (touches_before (of_file settings) past d) m.parts ≡ p.given) here (p.gives settings past m.export (stand_admitted m.export s a refl)) in
     record {
       reading = Ok m;
       reads = p.says;
-      stand = λ past s. stand_later m (amid past s);
-      decoded = p.decoded;
-      decodes = λ life past s. (
-        p.decoded,
-        amid_decoded life m p.decoded (amid past s)
-            (subst (λ d. AreDecoded File life m.export (touches_before File life past d) m.parts p.decoded) here (p.decodes life past m.export (stand_admitted m.export s a refl))),
-        refl,
-      );
+      stand = λ before s. subst (λ (l : List Message). StandFor new l) (sym (messages_more before m)) (stand_later m (amid (messages_of file_key before) s));
+      item = Data file_key m.domain m.export m.sequence (decoded_sets p.given);
+      gives = λ settings before s.
+          let past = messages_of file_key before in ap (λ l. Data file_key m.domain m.export m.sequence (decoded_sets l)) (amid_given settings m p.given (amid past s) (given settings past s));
       planned_so = p.planned_so;
     }
 
@@ -235,20 +258,17 @@ next_crowded octets domain old new m plan reads here a none built =
     record {
       reading = Ok m;
       reads = reads;
-      stand = λ past s. stand_crowded m s b refl;
-      decoded = [];
-      decodes = λ life past s. ([], crowded_decoded life m s b refl, refl);
+      stand = λ before s. subst (λ (l : List Message). StandFor new l) (sym (messages_more before m)) (stand_crowded m s b refl);
+      item = Data file_key m.domain m.export m.sequence [];
+      gives = λ settings before s. ap (λ l. Data file_key m.domain m.export m.sequence (decoded_sets l)) (crowded_given settings m s b refl);
       planned_so = empty_stands plan none built;
     }
 
 -- ---- sessions
 
 pub session_none : (domains : Domains) (planned : List PlannedMessage) → StandFor domains [] → planned ≡ [] → PlansUpTo [] domains planned
-session_none domains planned s none = record { plan = record { readings = []; read = tt; items = []; decode = λ life. tt; stands = rw none tt }; stand = s }
-
-item_sets : (reading : Result Message Malformed) (decoded : List DecodedSet) → sets_of (item_of reading decoded) ≡ decoded
-item_sets (Ok m) decoded = refl
-item_sets (Err fault) decoded = refl
+session_none domains planned s none =
+    record { plan = record { read = SessionOpen file_key File ∷ []; reads = (refl, tt); items = []; decode = λ settings. refl; stands = rw none tt }; stand = s }
 
 stand_append : (planned : List PlannedMessage) (items : List Item) (p : PlannedMessage) (i : Item) → AllStand planned items → SetsStand p (sets_of i) → AllStand (planned ++ p ∷ []) (items ++ i ∷ [])
 stand_append [] [] p i a q = (q, tt)
@@ -256,23 +276,22 @@ stand_append [] (y ∷ items) p i a q = absurd a
 stand_append (x ∷ planned) [] p i a q = absurd a
 stand_append (x ∷ planned) (y ∷ items) p i a q = (a.0, stand_append planned items p i a.1 q)
 
-fold_more : (past : List Message) (readings : List (Result Message Malformed)) (r : Result Message Malformed) → fold with_reading past (readings ++ r ∷ []) ≡ with_reading (fold with_reading past readings) r
-fold_more past [] r = refl
-fold_more past (x ∷ readings) r = fold_more (with_reading past x) readings r
-
 session_next : (list : List (List ℕ)) (octets : List ℕ) (old new : Domains) (planned : List PlannedMessage) (next : PlannedMessage) → PlansUpTo list old planned → PlansNext octets old new next → PlansUpTo (list ++ octets ∷ []) new (planned ++ next ∷ [])
 session_next list octets old new planned next p n =
-    let i = item_of n.reading n.decoded in
-    let past = fold with_reading [] p.plan.readings in
+    let here = Raw file_key n.reading in
+    let more : List ReadArrival = p.plan.read ++ here ∷ [] in
     record {
       plan = record {
-        readings = p.plan.readings ++ n.reading ∷ [];
-        read = readings-more list p.plan.readings octets n.reading p.plan.read n.reads;
-        items = p.plan.items ++ i ∷ [];
-        decode = λ life. in_order-more File life file_key [] p.plan.readings p.plan.items n.reading i (p.plan.decode life) (n.decodes life past p.stand);
-        stands = stand_append planned p.plan.items next i p.plan.stands (subst (λ (d : List DecodedSet). SetsStand next d) (sym (item_sets n.reading n.decoded)) n.planned_so);
+        read = more;
+        reads = subst (λ (l : List (Arrival (List ℕ))). AreReadAs (SessionOpen file_key File ∷ l) more) (sym (map-append (Raw file_key) list (octets ∷ [])))
+            (one_more_read (session_of list) p.plan.read (Raw file_key octets) here p.plan.reads (n.reading, n.reads, refl));
+        items = p.plan.items ++ n.item ∷ [];
+        decode = λ settings.
+            one_more_item (files settings) p.plan.read here
+            ∙ (ap (λ (l : List Item). l ++ next_item settings p.plan.read n.reading ∷ []) (p.plan.decode settings) ∙ ap (λ i. Note file_key File true ∷ p.plan.items ++ i ∷ []) (n.gives settings p.plan.read p.stand));
+        stands = stand_append planned p.plan.items next n.item p.plan.stands n.planned_so;
       };
-      stand = subst (λ (l : List Message). StandFor new l) (sym (fold_more [] p.plan.readings n.reading)) (n.stand past p.stand);
+      stand = n.stand p.plan.read p.stand;
     }
 
 pub session_more : (list : List (List ℕ)) (index : ℕ) (octets : List ℕ) (old new : Domains) (planned after : List PlannedMessage) (next : PlannedMessage) → index < length list → octets ≡ get_or list index octets → PlansUpTo (take index list) old planned
@@ -308,4 +327,4 @@ not_printed (p ∷ planned) (i ∷ items) s e =
 
 pub plans_session : (list : List (List ℕ)) (planned : List PlannedMessage) (built : Bool) → PlansMessages list planned → built ≡ list_all (λ (m : PlannedMessage). m.is_built) planned → PlansSession list planned built
 plans_session list planned built p is =
-    record { readings = p.readings; read = p.read; items = p.items; decode = p.decode; are = λ e. all_planned planned p.items p.stands (sym is ∙ e); other = λ e. not_printed planned p.items p.stands (sym is ∙ e) }
+    record { read = p.read; reads = p.reads; items = p.items; decode = p.decode; are = λ e. all_planned planned p.items p.stands (sym is ∙ e); other = λ e. not_printed planned p.items p.stands (sym is ∙ e) }

@@ -4,7 +4,8 @@ use Rattle.std.specs.Prelude.{Result, Ok, Err, flat_map}
 use Rattle.std.proofs.lemmas.List.{take-append-drop}
 use Rattle.col_base.specs.declared.base.Kind.{Kind}
 use Rattle.wire_spec.specs.Content.{Definition}
-use Rattle.run_spec.specs.Decode.{Record, DecodedSet, AreRecordsOf}
+use Rattle.run_spec.specs.Records.{Record, AreRecordsOf}
+use Rattle.run_spec.specs.Outcome.{DecodedSet}
 use Rattle.run_spec.specs.Result.{record_text, is_printed, set_text, sets_text}
 use Rattle.site_io.specs.declared.outside.OutsideFault.{OutsideFault}
 use Rattle.site_io.specs.declared.outside.OutsideFault.TheVariants.{Failed, NoMemory}

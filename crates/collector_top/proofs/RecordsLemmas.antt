@@ -15,7 +15,7 @@ use Rattle.text_spec.specs.Builtin.{builtin_rows}
 use Rattle.text_spec.specs.Fields.{are_single}
 use Rattle.text_spec.specs.Json.{single_text, json_line}
 use Rattle.text_spec.proofs.LineLemmas.{singles_one_by_one}
-use Rattle.run_spec.specs.Decode.{Record, AreRecordsOf}
+use Rattle.run_spec.specs.Records.{Record, AreRecordsOf}
 use Rattle.run_spec.specs.Result.{record_text}
 use Rattle.record_iter.specs.Walk.{HaveValues, GivesField, HaveRecords, GivesRecord}
 use Rattle.record_iter.specs.declared.value.FieldValue.{FieldValue}

@@ -1,23 +1,33 @@
 -- The domains of a session stand for its messages, one after another: the domain of a message is admitted or crowded
 -- out, then the template records of its sets are taken, and at its end the domains stand for one message more.
-use Rattle.std.proofs.Common.{◌≡◌, ℕ, ◌+◌, ◌<◌, ◌≤◌, inl, inr, Bool, true, false, not, ◌&&◌, ◌||◌, cond, List, [], ◌∷◌, ◌++◌, map, length, refl, ap, sym, subst, ◌∙◌, append_assoc, append-nil, length-append}
-use Rattle.std.specs.Prelude.{◌==◌, nat_le, nat_lt, Option, None, Some, MatchBool, MatchOption, fold, flat_map}
+use Rattle.std.proofs.Common.{◌≡◌, ◌≢◌, ℕ, ◌+◌, ◌<◌, ◌≤◌, inl, inr, Bool, true, false, not, ◌&&◌, ◌||◌, cond, List, [], ◌∷◌, ◌++◌, map, length, refl, ap, sym, subst, ◌∙◌, append_assoc, append-nil, length-append}
+use Rattle.std.specs.Prelude.{◌==◌, nat_le, nat_lt, Option, None, Some, fold, filter, flat_map}
 use Rattle.std.proofs.lemmas.Bool.{cases_Bool, cases_lt, eq-eqb, eqb-true, le-ltb, lt-ltb, le-leb, lt-leb, or_left, or_right, cond-true, cond-false, true≢false}
 use Rattle.std.proofs.lemmas.List.Concat.{flat_map-append}
 use Rattle.std.proofs.lemmas.List.Folds.{list_any-append}
 use Rattle.std.proofs.lemmas.List.Sums.{fold-append}
-use Rattle.col_base.specs.declared.base.Lifetimes.{Lifetimes}
 use Rattle.col_base.specs.declared.base.Transport.TheVariants.{File}
 use Rattle.wire_spec.specs.Content.{Definition, Touch, Part, Message}
 use Rattle.wire_spec.specs.Content.Part.{Touches, Body}
 use Rattle.template_spec.specs.Valid.{touched, last_touched, valid}
-use Rattle.run_spec.specs.Judge.{dated, touches_in, is_crowded, is_taken, touches_before}
+use Rattle.template_spec.specs.Late.{is_kept as is_counted}
+use Rattle.arrival_spec.specs.Settings.{Settings}
+use Rattle.run_spec.specs.Judge.{is_crowded, judge, is_taken}
+use Rattle.run_spec.specs.Judge.Judgement.{Crowded, Taken}
+use Rattle.run_spec.specs.Touches.{dated, touches_in, touches_before}
 use Rattle.run_spec.specs.Domains.{is_among, kept_domains, with_domain}
-use Rattle.run_spec.specs.Decode.{DecodedSet, IsDecodedBy, IsDecodedPart, AreDecoded, AreDecodedAfter}
+use Rattle.wire_spec.specs.WellFormed.{IsWellFormed}
+use Rattle.run_spec.specs.Records.{Record, AreRecordsOf, records_of}
+use Rattle.run_spec.specs.Outcome.{Outcome, by_records, by_definition, outcome, outcomes, decoded_in}
+use Rattle.run_spec.specs.Outcome.SkipReason.{ReservedId, NoTemplate}
+use Rattle.run_spec.specs.Outcome.Outcome.{Touched, Skipped, Empty, Decoded}
+use Rattle.run_spec.specs.Meaning.{IsOutcomeBy}
+use Rattle.run_spec.specs.Work.{outcomes_if}
 use Rattle.run_spec.proofs.DomainLemmas.{kept_domains-more, crowded_if}
-use Rattle.run_spec.proofs.OneSession.{touches_before-more}
+use Rattle.run_spec.proofs.MoreLemmas.{one_more_touches}
+use Rattle.run_spec.proofs.RecordLemmas.{records_there, records_found, no_records}
 use Rattle.collector_top.specs.declared.domains.Domains.{Domains}
-use Rattle.collector_top.specs.SessionTemplates.{is_kept, count_kept, templates_of, Admits, AreTouched, KeepDomains, StandFor, StandAmid}
+use Rattle.collector_top.specs.SessionTemplates.{of_file, is_kept, count_kept, templates_of, Admits, AreTouched, KeepDomains, StandFor, StandAmid}
 
 -- ---- which domains are kept
 
@@ -52,13 +62,13 @@ crowded_out {old} {new} {past} {admitted} m s a =
     ∙ (ap (λ b. not (is_among m.domain k) && b) (sym (no_room (length k) 1024))
     ∙ (sym (neither (is_among m.domain k) (nat_lt (length k) 1024)) ∙ ap not (sym (room_by s.kept a))))
 
-never_late : (crowded : Bool) → not (crowded || false) ≡ not crowded
-never_late true = refl
-never_late false = refl
+taken_not : (admitted : Bool) → is_taken (cond (not admitted) Crowded Taken) ≡ admitted
+taken_not true = refl
+taken_not false = refl
 
 -- In a file a message is taken exactly where its domain is admitted.
-pub admitted_taken : {old new : Domains} {past : List Message} {admitted : Bool} (life : Lifetimes) (m : Message) → StandFor old past → Admits old m.domain admitted new → is_taken File life past m ≡ admitted
-admitted_taken {old} {new} {past} {admitted} life m s a = never_late (is_crowded past m) ∙ (ap not (crowded_out m s a) ∙ not_not admitted)
+pub admitted_taken : {old new : Domains} {past : List Message} {admitted : Bool} (settings : Settings) (m : Message) → StandFor old past → Admits old m.domain admitted new → is_taken (judge (of_file settings) past m) ≡ admitted
+admitted_taken {old} {new} {past} {admitted} settings m s a = ap (λ b. is_taken (cond b Crowded Taken)) (crowded_out m s a) ∙ taken_not admitted
 
 -- what is among some domains and one more
 among_grown : (known full : Bool) (kept : List ℕ) (domain d : ℕ) → known ≡ is_among domain kept → is_among d (cond (known || full) kept (kept ++ domain ∷ [])) ≡ cond (domain == d) (known || not full) (is_among d kept)
@@ -106,8 +116,8 @@ keep_more {old} {new} {kept} {domain} {admitted} k a = record {
 -- ---- their templates
 
 -- the touches of one set more
-parts-more : (time : ℕ) (parts : List Part) (p : Part) → flat_map (dated time) (parts ++ p ∷ []) ≡ flat_map (dated time) parts ++ dated time p
-parts-more time parts p = flat_map-append (dated time) parts (p ∷ []) ∙ ap (λ t. flat_map (dated time) parts ++ t) (append-nil (dated time p))
+parts-more : (time : ℕ) (parts : List Part) (p : Part) → flat_map (dated File time) (parts ++ p ∷ []) ≡ flat_map (dated File time) parts ++ dated File time p
+parts-more time parts p = flat_map-append (dated File time) parts (p ∷ []) ∙ ap (λ t. flat_map (dated File time) parts ++ t) (append-nil (dated File time p))
 
 dated_fold : (time id : ℕ) (found : Option Definition) (touches : List Touch) → fold (λ (f : Option Definition) (t : ℕ × Touch). touched id f t.1) found (map (λ (t : Touch). (time, t)) touches) ≡ fold (touched id) found touches
 dated_fold time id found [] = refl
@@ -117,6 +127,14 @@ dated_fold time id found (t ∷ touches) = dated_fold time id (touched id found 
 last_more : (before : List (ℕ × Touch)) (time id : ℕ) (touches : List Touch) → last_touched (before ++ map (λ (t : Touch). (time, t)) touches) id ≡ fold (touched id) (last_touched before id) touches
 last_more before time id touches =
     fold-append (λ (f : Option Definition) (t : ℕ × Touch). touched id f t.1) None before (map (λ (t : Touch). (time, t)) touches) ∙ dated_fold time id (last_touched before id) touches
+
+-- in a file all template records count
+all_counted : (touches : List Touch) → filter (is_counted File) touches ≡ touches
+all_counted [] = refl
+all_counted (t ∷ touches) = ap (λ l. t ∷ l) (all_counted touches)
+
+last_dated : (before : List (ℕ × Touch)) (time id : ℕ) (touches : List Touch) → last_touched (before ++ dated File time (Touches touches)) id ≡ fold (touched id) (last_touched before id) touches
+last_dated before time id touches = ap (λ l. last_touched (before ++ map (λ (t : Touch). (time, t)) l) id) (all_counted touches) ∙ last_more before time id touches
 
 none_more : (before : List (ℕ × Touch)) (b : Bool) → before ++ cond b [] [] ≡ before
 none_more before true = append-nil before
@@ -131,19 +149,19 @@ pub stand_admitted : {old new : Domains} {past : List Message} {domain : ℕ} {a
 stand_admitted {old} {new} {past} {domain} {admitted} time s a e = record {
   here = admitted_here a e;
   kept = keep_more s.kept a;
-  templates = λ life d id. a.templates d id ∙ (s.templates life d id ∙ sym (ap (λ t. last_touched t id) (none_more (touches_before File life past d) (domain == d))));
+  templates = λ settings d id. a.templates d id ∙ (s.templates settings d id ∙ sym (ap (λ t. last_touched t id) (none_more (touches_before (of_file settings) past d) (domain == d))));
 }
 
 -- Where it is crowded out, they stand for one message more.
 pub stand_crowded : {old new : Domains} {past : List Message} {admitted : Bool} (m : Message) → StandFor old past → Admits old m.domain admitted new → admitted ≡ false → StandFor new (past ++ m ∷ [])
 stand_crowded {old} {new} {past} {admitted} m s a e = record {
   kept = subst (KeepDomains new) (sym (kept_domains-more past m)) (keep_more s.kept a);
-  templates = λ life d id.
+  templates = λ settings d id.
       a.templates d id
-      ∙ (s.templates life d id
+      ∙ (s.templates settings d id
       ∙ ap (λ t. last_touched t id)
-      (sym (touches_before-more File life past m d
-      ∙ (ap (λ b. touches_before File life past d ++ cond (b && (m.domain == d)) (touches_in m) []) (admitted_taken life m s a ∙ e) ∙ append-nil (touches_before File life past d)))));
+      (sym (one_more_touches (of_file settings) past m d
+      ∙ (ap (λ b. touches_before (of_file settings) past d ++ cond (b && (m.domain == d)) (touches_in File m) []) (admitted_taken settings m s a ∙ e) ∙ append-nil (touches_before (of_file settings) past d)))));
 }
 
 -- One set of template records more.
@@ -152,17 +170,17 @@ pub stand_touched : {old new : Domains} {past : List Message} {time domain : ℕ
 stand_touched {old} {new} {past} {time} {domain} {parts} touches s a = record {
   here = a.kept domain ∙ s.here;
   kept = record { are = λ d. a.kept d ∙ s.kept.are d; count = a.count ∙ s.kept.count };
-  templates = λ life d id.
+  templates = λ settings d id.
       a.templates d id
-      ∙ (ap (λ f. cond (domain == d) (fold (touched id) f touches) f) (s.templates life d id) ∙ by_domain (touches_before File life past d) id (domain == d));
+      ∙ (ap (λ f. cond (domain == d) (fold (touched id) f touches) f) (s.templates settings d id) ∙ by_domain (touches_before (of_file settings) past d) id (domain == d));
 }
   where
     by_domain : (before : List (ℕ × Touch)) (id : ℕ) (b : Bool)
-        → cond b (fold (touched id) (last_touched (before ++ cond b (flat_map (dated time) parts) []) id) touches) (last_touched (before ++ cond b (flat_map (dated time) parts) []) id)
-        ≡ last_touched (before ++ cond b (flat_map (dated time) (parts ++ Touches touches ∷ [])) []) id
+        → cond b (fold (touched id) (last_touched (before ++ cond b (flat_map (dated File time) parts) []) id) touches) (last_touched (before ++ cond b (flat_map (dated File time) parts) []) id)
+        ≡ last_touched (before ++ cond b (flat_map (dated File time) (parts ++ Touches touches ∷ [])) []) id
     by_domain before id true =
-        sym (last_more (before ++ flat_map (dated time) parts) time id touches)
-        ∙ ap (λ t. last_touched t id) (append_assoc before (flat_map (dated time) parts) (map (λ (t : Touch). (time, t)) touches) ∙ ap (λ t. before ++ t) (sym (parts-more time parts (Touches touches))))
+        sym (last_dated (before ++ flat_map (dated File time) parts) time id touches)
+        ∙ ap (λ t. last_touched t id) (append_assoc before (flat_map (dated File time) parts) (dated File time (Touches touches)) ∙ ap (λ t. before ++ t) (sym (parts-more time parts (Touches touches))))
     by_domain before id false = refl
 
 -- One set without template records more.
@@ -171,73 +189,86 @@ pub stand_body : {domains : Domains} {past : List Message} {time domain : ℕ} {
 stand_body {domains} {past} {time} {domain} {parts} id body s = record {
   here = s.here;
   kept = s.kept;
-  templates = λ life d k.
-      s.templates life d k
-      ∙ ap (λ t. last_touched (touches_before File life past d ++ cond (domain == d) t []) k) (sym (parts-more time parts (Body id body) ∙ append-nil (flat_map (dated time) parts)));
+  templates = λ settings d k.
+      s.templates settings d k
+      ∙ ap (λ t. last_touched (touches_before (of_file settings) past d ++ cond (domain == d) t []) k) (sym (parts-more time parts (Body id body) ∙ append-nil (flat_map (dated File time) parts)));
 }
 
--- a message whose domain is kept is taken
-amid_taken : {domains : Domains} (past : List Message) (life : Lifetimes) (m : Message) → is_kept domains m.domain ≡ true → KeepDomains domains (with_domain (kept_domains past) m.domain) → is_taken File life past m ≡ true
-amid_taken {domains} past life m here kept =
-    never_late (is_crowded past m) ∙ (not_not (is_among m.domain (kept_domains (past ++ m ∷ []))) ∙ (ap (is_among m.domain) (kept_domains-more past m) ∙ (sym (kept.are m.domain) ∙ here)))
+-- a message whose domain is kept is not crowded out
+amid_room : {domains : Domains} (past : List Message) (m : Message) → is_kept domains m.domain ≡ true → KeepDomains domains (with_domain (kept_domains past) m.domain) → is_crowded past m ≡ false
+amid_room {domains} past m here kept = ap not (ap (is_among m.domain) (kept_domains-more past m) ∙ (sym (kept.are m.domain) ∙ here))
+
+-- and so it is taken
+amid_taken : {domains : Domains} (past : List Message) (settings : Settings) (m : Message) → is_kept domains m.domain ≡ true → KeepDomains domains (with_domain (kept_domains past) m.domain) → is_taken (judge (of_file settings) past m) ≡ true
+amid_taken {domains} past settings m here kept = ap (λ b. is_taken (cond b Crowded Taken)) (amid_room past m here kept)
 
 -- Behind the sets of a message the domains stand for one message more.
 pub stand_later : {domains : Domains} {past : List Message} (m : Message) → StandAmid domains past m.export m.domain m.parts → StandFor domains (past ++ m ∷ [])
 stand_later {domains} {past} m s = record {
   kept = subst (KeepDomains domains) (sym (kept_domains-more past m)) s.kept;
-  templates = λ life d id.
-      s.templates life d id
+  templates = λ settings d id.
+      s.templates settings d id
       ∙ ap (λ t. last_touched t id)
-      (sym (touches_before-more File life past m d ∙ ap (λ b. touches_before File life past d ++ cond (b && (m.domain == d)) (touches_in m) []) (amid_taken past life m s.here s.kept)));
+      (sym (one_more_touches (of_file settings) past m d ∙ ap (λ b. touches_before (of_file settings) past d ++ cond (b && (m.domain == d)) (touches_in File m) []) (amid_taken past settings m s.here s.kept)));
 }
 
--- ---- what the sets of a message are decoded by
+-- ---- what the sets of a message give
 
 -- The definition of an ID in the domain of a message is the valid one.
-pub amid_valid : {domains : Domains} {past : List Message} {time domain : ℕ} {parts : List Part} (life : Lifetimes) (id : ℕ) → StandAmid domains past time domain parts
-    → templates_of domains domain id ≡ valid File life (touches_before File life past domain ++ flat_map (dated time) parts) time id
-amid_valid {domains} {past} {time} {domain} {parts} life id s =
-    s.templates life domain id
-    ∙ ap (λ t. last_touched (touches_before File life past domain ++ t) id) (cond-true (domain == domain) (flat_map (dated time) parts) [] (eq-eqb domain domain refl))
+pub amid_valid : {domains : Domains} {past : List Message} {time domain : ℕ} {parts : List Part} (settings : Settings) (id : ℕ) → StandAmid domains past time domain parts
+    → templates_of domains domain id ≡ valid File settings.life (touches_before (of_file settings) past domain ++ flat_map (dated File time) parts) time id
+amid_valid {domains} {past} {time} {domain} {parts} settings id s =
+    s.templates settings domain id
+    ∙ ap (λ t. last_touched (touches_before (of_file settings) past domain ++ t) id) (cond-true (domain == domain) (flat_map (dated File time) parts) [] (eq-eqb domain domain refl))
 
--- by the valid definition, if any, a set is decoded or skipped
-part_by : (life : Lifetimes) (time id : ℕ) (touches : List (ℕ × Touch)) (found : Option Definition) (body : List ℕ) (decoded : List DecodedSet)
-    → valid File life touches time id ≡ found → MatchOption (cond (nat_lt id 256) None found) (decoded ≡ []) (λ d. IsDecodedBy d id body decoded) → IsDecodedPart File life time touches (Body id body) decoded
-part_by life time id touches found body decoded e p = subst (λ (f : Option Definition). MatchOption (cond (nat_lt id 256) None f) (decoded ≡ []) (λ d. IsDecodedBy d id body decoded)) (sym e) p
+-- A set whose definition is found gives what its body is by it.
+pub part_found : {domains : Domains} {past : List Message} {time domain : ℕ} {parts : List Part} (settings : Settings) (id : ℕ) (definition : Definition) (body : List ℕ)
+    → StandAmid domains past time domain parts → 256 ≤ id → templates_of domains domain id ≡ Some definition
+    → outcome (of_file settings) time (touches_before (of_file settings) past domain ++ flat_map (dated File time) parts) (Body id body) ≡ by_definition id body (Some definition)
+part_found {domains} {past} {time} {domain} {parts} settings id definition body s le e =
+    ap (λ b. cond b (Skipped ReservedId) (by_definition id body (last_touched (touches_before (of_file settings) past domain ++ flat_map (dated File time) parts) id))) (le-ltb id 256 le)
+    ∙ ap (by_definition id body) (sym (amid_valid settings id s) ∙ e)
 
--- A set whose definition is found is decoded by it.
-pub part_found : {domains : Domains} {past : List Message} {time domain : ℕ} {parts : List Part} (life : Lifetimes) (id : ℕ) (definition : Definition) (body : List ℕ) (decoded : List DecodedSet)
-    → StandAmid domains past time domain parts → 256 ≤ id → templates_of domains domain id ≡ Some definition → IsDecodedBy definition id body decoded
-    → IsDecodedPart File life time (touches_before File life past domain ++ flat_map (dated time) parts) (Body id body) decoded
-part_found {domains} {past} {time} {domain} {parts} life id definition body decoded s le e p =
-    part_by life time id (touches_before File life past domain ++ flat_map (dated time) parts) (Some definition) body decoded (sym (amid_valid life id s) ∙ e)
-    (subst (λ (b : Bool). MatchOption (cond b None (Some definition)) (decoded ≡ []) (λ d. IsDecodedBy d id body decoded)) (sym (le-ltb id 256 le)) p)
+-- One whose definition isn't found has no template.
+pub part_unknown : {domains : Domains} {past : List Message} {time domain : ℕ} {parts : List Part} (settings : Settings) (id : ℕ) (body : List ℕ)
+    → StandAmid domains past time domain parts → 256 ≤ id → templates_of domains domain id ≡ None
+    → outcome (of_file settings) time (touches_before (of_file settings) past domain ++ flat_map (dated File time) parts) (Body id body) ≡ Skipped NoTemplate
+part_unknown {domains} {past} {time} {domain} {parts} settings id body s le e =
+    ap (λ b. cond b (Skipped ReservedId) (by_definition id body (last_touched (touches_before (of_file settings) past domain ++ flat_map (dated File time) parts) id))) (le-ltb id 256 le)
+    ∙ ap (by_definition id body) (sym (amid_valid settings id s) ∙ e)
 
--- One whose definition isn't found is skipped.
-pub part_unknown : {domains : Domains} {past : List Message} {time domain : ℕ} {parts : List Part} (life : Lifetimes) (id : ℕ) (body : List ℕ)
-    → StandAmid domains past time domain parts → templates_of domains domain id ≡ None
-    → IsDecodedPart File life time (touches_before File life past domain ++ flat_map (dated time) parts) (Body id body) []
-part_unknown {domains} {past} {time} {domain} {parts} life id body s e =
-    part_by life time id (touches_before File life past domain ++ flat_map (dated time) parts) None body [] (sym (amid_valid life id s) ∙ e) (by_test (nat_lt id 256))
+-- One of an ID below those of Data Sets has a reserved one.
+pub part_low : (settings : Settings) (time id : ℕ) (touches : List (ℕ × Touch)) (body : List ℕ) → id < 256 → outcome (of_file settings) time touches (Body id body) ≡ Skipped ReservedId
+part_low settings time id touches body lt = ap (λ b. cond b (Skipped ReservedId) (by_definition id body (last_touched touches id))) (lt-ltb id 256 lt)
+
+-- The sets of a message whose domain is kept give what they give in order.
+pub amid_given : {domains : Domains} {past : List Message} (settings : Settings) (m : Message) (given : List Outcome) → StandAmid domains past m.export m.domain m.parts → outcomes (of_file settings) past m ≡ given
+    → outcomes_if (of_file settings) past m (judge (of_file settings) past m) ≡ given
+amid_given {domains} {past} settings m given s e = ap (λ b. outcomes_if (of_file settings) past m (cond b Crowded Taken)) (amid_room past m s.here s.kept) ∙ e
+
+-- Those of a message that is crowded out give nothing.
+pub crowded_given : {old new : Domains} {past : List Message} {admitted : Bool} (settings : Settings) (m : Message) → StandFor old past → Admits old m.domain admitted new → admitted ≡ false
+    → outcomes_if (of_file settings) past m (judge (of_file settings) past m) ≡ []
+crowded_given {old} {new} {past} {admitted} settings m s a e = ap (λ b. outcomes_if (of_file settings) past m (cond b Crowded Taken)) (crowded_out m s a ∙ ap not e)
+
+-- ---- what a body gives by a definition
+
+some_decoded : (definition : Definition) (id : ℕ) (records : List Record) → records ≢ [] → by_records id definition (Some records) ≡ Decoded (record { id = id; definition = definition; records = records })
+some_decoded definition id [] some = absurd (some refl)
+some_decoded definition id (r ∷ records) some = refl
+
+-- What a body is by a well-formed definition is what is computed of it.
+pub given_by : (definition : Definition) (id : ℕ) (body : List ℕ) (o : Outcome) → IsWellFormed definition → IsOutcomeBy definition id body o → by_definition id body (Some definition) ≡ o
+given_by definition id body Touched well is = absurd is
+given_by definition id body (Skipped reason) well is = ap (by_records id definition) (no_records definition body well is.1) ∙ ap Skipped (sym is.0)
+given_by definition id body Empty well is = ap (by_records id definition) (records_found definition body [] well (record { cut = is; each = tt }))
+given_by definition id body (Decoded d) well is = ap (by_records id definition) (records_found definition body d.records well is.1) ∙ (some_decoded definition id d.records is.2 ∙ ap Decoded (sym is.0))
+
+-- A body without records is decoded to no set.
+pub none_decoded : (definition : Definition) (id : ℕ) (body : List ℕ) → IsWellFormed definition → ((records : List Record) → AreRecordsOf definition body records → records ≡ []) → decoded_in (by_definition id body (Some definition)) ≡ []
+none_decoded definition id body well none = of (records_of definition.fields body) refl
   where
-    by_test : (b : Bool) → let none : List DecodedSet = [] in MatchOption (cond b None None) (none ≡ []) (λ d. IsDecodedBy d id body none)
-    by_test true = refl
-    by_test false = refl
-
--- So is one of an ID below those of Data Sets.
-pub part_low : (life : Lifetimes) (time id : ℕ) (touches : List (ℕ × Touch)) (body : List ℕ) → id < 256 → IsDecodedPart File life time touches (Body id body) []
-part_low life time id touches body lt =
-    let none : List DecodedSet = [] in
-    subst (λ (b : Bool). MatchOption (cond b None (valid File life touches time id)) (none ≡ []) (λ d. IsDecodedBy d id body none)) (sym (lt-ltb id 256 lt)) refl
-
--- The decoded sets of a message whose domain is kept.
-pub amid_decoded : {domains : Domains} {past : List Message} (life : Lifetimes) (m : Message) (decoded : List DecodedSet) → StandAmid domains past m.export m.domain m.parts
-    → AreDecoded File life m.export (touches_before File life past m.domain) m.parts decoded → AreDecodedAfter File life past m decoded
-amid_decoded {domains} {past} life m decoded s d =
-    subst (λ (b : Bool). MatchBool b (AreDecoded File life m.export (touches_before File life past m.domain) m.parts decoded) (decoded ≡ [])) (sym (amid_taken past life m s.here s.kept)) d
-
--- A message that is crowded out has none.
-pub crowded_decoded : {old new : Domains} {past : List Message} {admitted : Bool} (life : Lifetimes) (m : Message) → StandFor old past → Admits old m.domain admitted new → admitted ≡ false → AreDecodedAfter File life past m []
-crowded_decoded {old} {new} {past} {admitted} life m s a e =
-    let none : List DecodedSet = [] in
-    subst (λ (b : Bool). MatchBool b (AreDecoded File life m.export (touches_before File life past m.domain) m.parts none) (none ≡ [])) (sym (admitted_taken life m s a ∙ e)) refl
+    of : (r : Option (List Record)) → records_of definition.fields body ≡ r → decoded_in (by_records id definition r) ≡ []
+    of None e = refl
+    of (Some []) e = refl
+    of (Some (x ∷ records)) e = absurd (let empty = none (x ∷ records) (records_there definition body (x ∷ records) well e) in cc)

@@ -1,10 +1,12 @@
 -- What `check` promises.
-use Rattle.std.specs.Prelude.{ℕ, ◌≡◌, ◌≢◌, ◌⊎◌, ⊤, Option, List, [], ◌∷◌, ◌++◌, Result, Ok, Err, IfSome, MatchOption}
+use Rattle.std.specs.Prelude.{ℕ, ◌≡◌, ◌≢◌, ◌⊎◌, ⊤, List, [], ◌∷◌, ◌++◌, Result, Ok, Err, IfSome}
 use Rattle.text_spec.specs.declared.element.Element.{Element}
 use Rattle.config_spec.specs.declared.conf.Conf.{Conf}
 use Rattle.config_spec.specs.Description.{description}
 use Rattle.element_spec.specs.declared.fault.TableFault.{TableFault}
 use Rattle.element_spec.specs.Table.{element_table, text_added}
+use Rattle.words_spec.specs.Commands.{Command}
+use Rattle.words_spec.specs.Commands.Command.{Direct, Check, Collect, Generate, Refused}
 use Rattle.site_io.specs.declared.outside.OutsideFault.{OutsideFault}
 use Rattle.site_io.specs.Outside.{Counts}
 use Rattle.site_io.specs.Seen.{Seen, TextSeen, TextRefuses, ChangesSay}
@@ -138,6 +140,10 @@ pub record Refuses (old new : Seen) : Type 0 where
   pub counts : Counts old.say.faults new.say.faults answer
   pub said : PutsText old.say.said new.say.said usage_text answer
 
--- what the words ask for is done, `direct` of two names or `check` of one, or they are refused
-abbrev pub Serves : Option (List ℕ × List ℕ) → Option (List ℕ) → Seen → Seen → ℕ → Type 0
-Serves direct check old new status = MatchOption direct (MatchOption check (Refuses old new) (λ name. Checks name old new status)) (λ n. Directs n.0 n.1 old new status)
+-- what the words ask for is done, or they are refused, as those of what isn't built yet are
+abbrev pub Serves : Command → Seen → Seen → ℕ → Type 0
+Serves (Direct place out) old new status = Directs place out old new status
+Serves (Check file) old new status = Checks file old new status
+Serves (Collect file) old new status = Refuses old new
+Serves (Generate number count) old new status = Refuses old new
+Serves Refused old new status = Refuses old new

@@ -1,7 +1,6 @@
 -- What `direct` promises.
 use Rattle.std.specs.Prelude.{ℕ, ◌≡◌, ◌⊎◌, ◌<◌, ◌≤◌, ◌^◌, ◌≢◌, ◌++◌, ⊤, List, [], Option, Some, None, length}
 use Rattle.arrival_spec.specs.declared.event.Scripted.{Scripted}
-use Rattle.run_spec.specs.Result.{IsFileText}
 use Rattle.site_io.specs.Outside.{Rose, one_more}
 use Rattle.site_io.specs.Seen.{Seen, PlaceSeen, SinkSeen, SaidSeen}
 use Rattle.site_io.specs.Writes.{Grows}
@@ -11,7 +10,7 @@ use Rattle.collector_top.specs.declared.direct.Outcome.{Outcome}
 use Rattle.collector_top.specs.declared.direct.Outcome.TheVariants as outcome
 use Rattle.collector_top.specs.Reading.{TakenFrom, IsNothingLeft, ReadCounts}
 use Rattle.collector_top.specs.Put.{GrowsByFront}
-use Rattle.collector_top.specs.Built.{IsBuilt}
+use Rattle.collector_top.specs.Built.{IsFileText, IsBuilt}
 use Rattle.collector_top.specs.Report.{HasStatus, SaysLines, outcome_text}
 
 -- how the reading ended: at the end nothing is left, and at the limit so many answers were given

@@ -3,15 +3,19 @@
 use Rattle.std.specs.Prelude.{ℕ, ◌≡◌, ◌+◌, ◌<◌, ◌==◌, ◌||◌, if◌then◌else◌, nat_lt, nat_le, Bool, true, false, List, [], Option, Some, None, ◌++◌, length, is_some, fold, flat_map}
 use Rattle.std.specs.BTreeMap.{get, btree_map_len, IsUnchanged}
 use Rattle.std.specs.Ordering.{nat_cmp}
-use Rattle.col_base.specs.declared.base.Lifetimes.{Lifetimes}
 use Rattle.col_base.specs.declared.base.Transport.TheVariants.{File}
 use Rattle.wire_spec.specs.Content.{Definition, Touch, Part, Message}
 use Rattle.template_spec.specs.Valid.{touched, last_touched}
-use Rattle.run_spec.specs.Judge.{dated, touches_before}
+use Rattle.arrival_spec.specs.Settings.{Settings}
+use Rattle.run_spec.specs.Touches.{dated, touches_before}
 use Rattle.run_spec.specs.Domains.{is_among, kept_domains, with_domain}
 use Rattle.collector_top.specs.declared.templates.Templates.{Templates}
 use Rattle.collector_top.specs.declared.domains.Domains.{Domains}
 use Rattle.collector_top.specs.DomainTemplates.{definition_of}
+
+-- the settings of an input that is a file
+abbrev pub of_file : Settings → Settings
+of_file settings = record settings { transport = File }
 
 -- whether a domain is kept
 abbrev pub is_kept : Domains → ℕ → Bool
@@ -56,11 +60,11 @@ pub record KeepDomains (domains : Domains) (kept : List ℕ) : Type 0 where
 -- The domains stand for the well-formed messages of a file so far.
 pub record StandFor (domains : Domains) (past : List Message) : Type 0 where
   pub kept : KeepDomains domains (kept_domains past)
-  pub templates : (life : Lifetimes) (d id : ℕ) → templates_of domains d id ≡ last_touched (touches_before File life past d) id
+  pub templates : (settings : Settings) (d id : ℕ) → templates_of domains d id ≡ last_touched (touches_before (of_file settings) past d) id
 
 -- The domains stand for these messages, and for the sets so far of one of an export time and a domain that is kept.
 pub record StandAmid (domains : Domains) (past : List Message) (time domain : ℕ) (parts : List Part) : Type 0 where
   pub here : is_kept domains domain ≡ true
   pub kept : KeepDomains domains (with_domain (kept_domains past) domain)
-  pub templates : (life : Lifetimes) (d id : ℕ) → templates_of domains d id
-      ≡ last_touched (touches_before File life past d ++ (if domain == d then flat_map (dated time) parts else [])) id
+  pub templates : (settings : Settings) (d id : ℕ) → templates_of domains d id
+      ≡ last_touched (touches_before (of_file settings) past d ++ (if domain == d then flat_map (dated File time) parts else [])) id

@@ -1,53 +1,22 @@
--- The words of the command line, without the program's name.
-use Rattle.std.specs.Prelude.{ℕ, Bool, false, not, ◌&&◌, ◌||◌, ◌==◌, if◌then◌else◌, List, [], ◌∷◌, length, take, drop, Option, Some, None, option_and_then, codes, bytes_eq}
+-- What words ask for, as the code has it.
+use Rattle.std.specs.Prelude.{Bool, true, false}
+use Rattle.words_spec.specs.Commands.{Command as Meant}
+use Rattle.words_spec.specs.Commands.Command.{Direct, Check, Collect, Generate, Refused}
+use Rattle.collector_top.specs.declared.words.Command.{Command}
+use Rattle.collector_top.specs.declared.words.Command.TheVariants as asked
 
--- a name has an octet, and doesn't begin with `-`
-abbrev pub is_name : List ℕ → Bool
-is_name [] = false
-is_name (first ∷ rest) = not (first == 45)
+-- the command that is meant
+abbrev pub told : Command → Meant
+told (asked.Direct place out) = Direct place.now out.now
+told (asked.Check file) = Check file.now
+told (asked.Collect file) = Collect file.now
+told (asked.Generate number count) = Generate number count
+told asked.Refused = Refused
 
-unfoldable pub direct_word : List ℕ
-direct_word = codes "direct"
-
--- `direct IN OUT`, with its two names
-abbrev pub direct_names : List (List ℕ) → Option (List ℕ × List ℕ)
-direct_names (command ∷ place ∷ out ∷ []) = if bytes_eq command direct_word && (is_name place && is_name out) then Some (place, out) else None
-direct_names words = None
-
-unfoldable pub check_word : List ℕ
-check_word = codes "check"
-
-unfoldable pub short_option : List ℕ
-short_option = codes "-c"
-
-unfoldable pub long_option : List ℕ
-long_option = codes "--config"
-
-unfoldable pub option_start : List ℕ
-option_start = codes "--config="
-
-abbrev pub is_option : List ℕ → Bool
-is_option word = bytes_eq word short_option || bytes_eq word long_option
-
--- what follows the start of a word, if it has that start
-abbrev pub rest_of : List ℕ → List ℕ → Option (List ℕ)
-rest_of start word = if bytes_eq (take (length start) word) start then Some (drop (length start) word) else None
-
--- what follows `--config=`
-abbrev pub option_rest : List ℕ → Option (List ℕ)
-option_rest word = rest_of option_start word
-
-abbrev pub if_name : List ℕ → Option (List ℕ)
-if_name word = if is_name word then Some word else None
-
--- `-c FILE`, `--config FILE` or `--config=FILE`, with the name of FILE
-abbrev pub file_name : List (List ℕ) → Option (List ℕ)
-file_name [] = None
-file_name (both ∷ []) = option_and_then if_name (option_rest both)
-file_name (option ∷ name ∷ []) = if is_option option then if_name name else None
-file_name words = None
-
--- `check` and one of these
-abbrev pub check_name : List (List ℕ) → Option (List ℕ)
-check_name [] = None
-check_name (command ∷ words) = if bytes_eq command check_word then file_name words else None
+-- which commands are built
+abbrev pub is_served : Meant → Bool
+is_served (Direct place out) = true
+is_served (Check file) = true
+is_served (Collect file) = false
+is_served (Generate number count) = false
+is_served Refused = false

@@ -1,12 +1,13 @@
 // The top call.
-ghost use Rattle.std.specs.Prelude.{◌≡◌, ◌↔◌, None, MatchOption, map, string_bytes};
+ghost use Rattle.std.specs.Prelude.{◌≡◌, ◌↔◌, false, map, string_bytes};
+ghost use Rattle.words_spec.specs.Commands.{command_of};
 ghost use Rattle.collector_top.specs.Check.{Refuses, Serves};
-ghost use Rattle.collector_top.specs.Words.{direct_names, check_name};
+ghost use Rattle.collector_top.specs.Words.{is_served};
 
 use crate::check::check_run;
 use crate::direct::direct_run;
 use crate::report::{Line, say_line};
-use crate::words::{check_name, direct_names};
+use crate::words::{Command, command_of};
 use site_io::Site;
 use std::alloc::Global;
 
@@ -19,17 +20,15 @@ fn refuse<S: Site>(site: &mut S) -> u8
     1
 }
 
-/// Does what the words ask for, and answers the program's status: 1 exactly where the words are refused.
+/// Does what the words ask for, and answers the program's status: 1 exactly where the words are refused, as those of
+/// `collect` and `generate` are until these are built.
 pub fn collect_main<S: Site>(alloc: Global, words: &Vec<String>, site: &mut S) -> u8
-    ensures serves { Serves (direct_names (map string_bytes words.now.items)) (check_name (map string_bytes words.now.items))
-        (S.seen site.old) (S.seen site.new) result }
-    ensures refused { (result ≡ 1) ↔ ((direct_names (map string_bytes words.now.items) ≡ None) × (check_name (map string_bytes words.now.items) ≡ None)) }
+    ensures serves { Serves (command_of (map string_bytes words.now.items)) (S.seen site.old) (S.seen site.new) result }
+    ensures refused { (result ≡ 1) ↔ (is_served (command_of (map string_bytes words.now.items)) ≡ false) }
 {
-    if let Some((place, out)) = direct_names(words) {
-        return direct_run(alloc, place, out, site);
-    }
-    match check_name(words) {
-        Some(name) => check_run(alloc, name, site),
-        None => refuse(site),
+    match command_of(words) {
+        Command::Direct { place, out } => direct_run(alloc, place, out, site),
+        Command::Check { file } => check_run(alloc, file, site),
+        Command::Collect { .. } | Command::Generate { .. } | Command::Refused => refuse(site),
     }
 }

@@ -1,6 +1,6 @@
 // Writes what was planned, message by message.
 ghost use Rattle.std.specs.Prelude.{◌≡◌, ◌++◌, List, OnOk, true, flat_map};
-ghost use Rattle.run_spec.specs.Decode.{DecodedSet};
+ghost use Rattle.run_spec.specs.Outcome.{DecodedSet};
 ghost use Rattle.run_spec.specs.Result.{sets_text};
 ghost use Rattle.site_io.specs.Outside.{Counts};
 ghost use Rattle.text_spec.specs.Builtin.{builtin_rows};

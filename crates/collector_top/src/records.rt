@@ -2,7 +2,7 @@
 ghost use Rattle.std.specs.Prelude.{◌≡◌, ◌++◌, List, OnOk};
 ghost use Rattle.std.specs.List.{flat_map};
 ghost use Rattle.text_spec.specs.Builtin.{builtin_rows};
-ghost use Rattle.run_spec.specs.Decode.{Record, AreRecordsOf};
+ghost use Rattle.run_spec.specs.Records.{Record, AreRecordsOf};
 ghost use Rattle.run_spec.specs.Result.{record_text};
 ghost use Rattle.collector_top.specs.Printed.{IsPrinted};
 

@@ -2,6 +2,7 @@
 use Rattle.std.proofs.Common.{◌≡◌, ◌≤◌, ℕ, Bool, true, false, not, if◌then◌else◌, List, [], ◌∷◌, Option, Some, None, Ok, slice_get, refl, subst, lit≤, arith}
 use Rattle.std.specs.List.{AllByRecursion}
 use Rattle.toml.specs.Data.{Members}
+use Rattle.config_spec.specs.declared.key.Version.{Version}
 use Rattle.config_spec.specs.declared.key.Version.TheVariants as V
 use Rattle.config_spec.specs.declared.key.Key.{Key}
 use Rattle.config_spec.specs.declared.key.Key.TheVariants as K
@@ -16,8 +17,8 @@ use Rattle.config_spec.specs.declared.key_row.Shape.TheVariants as S
 use Rattle.config_spec.specs.Keys as row
 use Rattle.config_spec.specs.Keys.{rows_of, kinds_of, children_of}
 use Rattle.config_spec.specs.Fits.{text_found, text_at, is_name, least_at, is_there, are_domains, text_test, fits}
-use Rattle.config_spec.specs.Faults.{Path, key_fault, keys_fault, unknown_fault, own_fault, table_fault, array_fault, arrays_fault, whole_fault, inner_fault, kind_of, items_at, is_one_table, top_kind, tables_fault}
-use Rattle.config_spec.specs.Values.{number_of, prefix_at, address_at, domain_set, domains_of, pair_of, test_in, rule_of, anon_row_of, anon_table_of, filter_table_of, work_in, stage_of, spec_of, input_of, output_in, output_of, conf_of}
+use Rattle.config_spec.specs.Faults.{Path, key_fault, keys_fault, unknown_fault, own_fault, table_fault, array_fault, arrays_fault, whole_fault, inner_fault, kind_of, items_at, is_one_table, top_kind, version_of, tables_fault}
+use Rattle.config_spec.specs.Values.{number_of, prefix_at, address_at, domain_set, domains_of, pair_of, test_in, rule_of, anon_row_of, anon_table_of, filter_table_of, work_in, stage_of, spec_of, input_of, output_in, output_of, conf_in, conf_of}
 use Rattle.config_spec.specs.Form.{IsInput, IsPrefix, IsTest, IsRule, IsPair, IsAnonRow, IsFilter, IsAnonymiser, IsWork, IsStage, IsDomainSet, IsOutputKind, IsOutput, IsConf}
 use Rattle.config_spec.specs.Description.{unless_fault, tree_of, tree_conf, tree_fault, description}
 use Rattle.config_spec.specs.Laws.{KeepForm}
@@ -29,16 +30,16 @@ use Rattle.config_spec.proofs.PrefixLemmas.{prefix_there, like_kept, domains_the
 abbrev Named : TableKind → Type 0
 Named kind = slice_get (rows_of V.One kind) 1 ≡ Some row.name
 
-named : (sort : TableSort) (path : Path) (entries : Members) (choice : row.choice_of sort ≡ row.choice_of Sort.Input) → AllByRecursion Named (kinds_of sort) → table_fault V.One sort path entries ≡ None
+named : (sort : TableSort) (path : Path) (entries : Members) (choice : row.choice_of sort ≡ row.choice_of Sort.Input) → AllByRecursion Named (kinds_of V.One sort) → table_fault V.One sort path entries ≡ None
     → is_name (text_at K.Name entries) ≡ true
 named sort path entries choice all e =
     let kept = table_kept sort path entries e in
     name_kept path entries K.Name (no_fault_at path entries (rows_of V.One kept.0) row.name 1 kept.2 ((kind_same Named sort path entries kept.0 K.Kind choice all kept.1).1))
 
-input_kept : (path : Path) (entries : Members) → whole_fault V.One Sort.Input path entries ≡ None → IsInput (input_of entries)
+input_kept : (path : Path) (entries : Members) → whole_fault V.One Sort.Input path entries ≡ None → IsInput (input_of V.One entries)
 unfolding whole_fault input_of spec_of rows_of kinds_of
 input_kept path entries e =
-    let own = (first_of_two (table_fault V.One Sort.Input path entries) (inner_fault V.One path entries (kind_of Sort.Input path entries)) e).0 in
+    let own = (first_of_two (table_fault V.One Sort.Input path entries) (inner_fault (table_fault V.One) V.One path entries (kind_of V.One Sort.Input path entries)) e).0 in
     record {
       name = named Sort.Input path entries refl (refl, (refl, (refl, tt))) own;
       stop_after = (number_ranged K.StopAfter 0 row.most 0 entries (lit≤ tt) (lit≤ tt)).1;
@@ -80,7 +81,7 @@ test_kept T.Between path entries e =
 test_kept T.Prefix path entries e = prefix_at_kept path entries K.Value (no_fault_at path entries (rows_of V.One T.Prefix) row.value_prefix 4 e refl)
 test_kept _ path entries e = tt
 
-rule_kept : (path : Path) (entries : Members) → table_fault V.One Sort.Rule path entries ≡ None → IsRule (rule_of entries)
+rule_kept : (path : Path) (entries : Members) → table_fault V.One Sort.Rule path entries ≡ None → IsRule (rule_of V.One entries)
 unfolding rule_of kinds_of
 rule_kept path entries e =
     let kept = table_kept Sort.Rule path entries e in
@@ -100,16 +101,16 @@ anon_row_kept path entries e =
       to = like_kept (text_at K.From entries) (text_at K.To entries) (text_right path entries K.To (S.Like K.From) (λ value. refl) (no_fault_at path entries (rows_of V.One T.Row) row.to 1 keys refl));
     }
 
-filter_kept : (path : Path) (entries : Members) → keys_fault path (rows_of V.One T.Filter) entries ≡ None → arrays_fault (table_fault V.One) path (children_of T.Filter) entries ≡ None
-    → IsFilter (filter_table_of entries)
+filter_kept : (path : Path) (entries : Members) → keys_fault path (rows_of V.One T.Filter) entries ≡ None → arrays_fault (table_fault V.One) path (children_of V.One T.Filter) entries ≡ None
+    → IsFilter (filter_table_of V.One entries)
 unfolding rows_of children_of
 filter_kept path entries e inner = record {
-  few = optional_counted rule_of path entries K.Rule 1024 (no_fault_at path entries (rows_of V.One T.Filter) row.rule 3 e refl);
-  rules = tables_kept IsRule rule_of (table_fault V.One Sort.Rule) rule_kept path K.Rule entries (first_of_two (array_fault (table_fault V.One Sort.Rule) path K.Rule entries) _ inner).0;
+  few = optional_counted (rule_of V.One) path entries K.Rule 1024 (no_fault_at path entries (rows_of V.One T.Filter) row.rule 3 e refl);
+  rules = tables_kept IsRule (rule_of V.One) (table_fault V.One Sort.Rule) rule_kept path K.Rule entries (first_of_two (array_fault (table_fault V.One Sort.Rule) path K.Rule entries) _ inner).0;
 }
 
 anonymiser_kept : (path : Path) (entries : Members) → keys_fault path (rows_of V.One T.Anonymise) entries ≡ None
-    → arrays_fault (table_fault V.One) path (children_of T.Anonymise) entries ≡ None → IsAnonymiser (anon_table_of entries)
+    → arrays_fault (table_fault V.One) path (children_of V.One T.Anonymise) entries ≡ None → IsAnonymiser (anon_table_of entries)
 unfolding rows_of children_of
 anonymiser_kept path entries e inner =
     let one = first_of_two (array_fault (table_fault V.One Sort.Field) path K.Field entries) _ inner in
@@ -125,17 +126,17 @@ anonymiser_kept path entries e inner =
 
 -- what an intermediate of a kind has
 abbrev Works : TableKind → Type 0
-Works kind = (path : Path) (entries : Members) → keys_fault path (rows_of V.One kind) entries ≡ None → arrays_fault (table_fault V.One) path (children_of kind) entries ≡ None
-    → IsWork (work_in kind entries)
+Works kind = (path : Path) (entries : Members) → keys_fault path (rows_of V.One kind) entries ≡ None → arrays_fault (table_fault V.One) path (children_of V.One kind) entries ≡ None
+    → IsWork (work_in V.One kind entries)
 
-inner_kept : (path : Path) (entries : Members) (kind : TableKind) → kind_of Sort.Intermediate path entries ≡ Ok kind → inner_fault V.One path entries (kind_of Sort.Intermediate path entries) ≡ None
-    → arrays_fault (table_fault V.One) path (children_of kind) entries ≡ None
+inner_kept : (path : Path) (entries : Members) (kind : TableKind) → kind_of V.One Sort.Intermediate path entries ≡ Ok kind → inner_fault (table_fault V.One) V.One path entries (kind_of V.One Sort.Intermediate path entries) ≡ None
+    → arrays_fault (table_fault V.One) path (children_of V.One kind) entries ≡ None
 inner_kept path entries kind is e = rw is at e
 
-stage_kept : (path : Path) (entries : Members) → whole_fault V.One Sort.Intermediate path entries ≡ None → IsStage (stage_of entries)
+stage_kept : (path : Path) (entries : Members) → whole_fault V.One Sort.Intermediate path entries ≡ None → IsStage (stage_of V.One entries)
 unfolding whole_fault stage_of rows_of kinds_of
 stage_kept path entries e =
-    let own = first_of_two (table_fault V.One Sort.Intermediate path entries) (inner_fault V.One path entries (kind_of Sort.Intermediate path entries)) e in
+    let own = first_of_two (table_fault V.One Sort.Intermediate path entries) (inner_fault (table_fault V.One) V.One path entries (kind_of V.One Sort.Intermediate path entries)) e in
     let kept = table_kept Sort.Intermediate path entries own.0 in
     let kind = kind_same Works Sort.Intermediate path entries kept.0 K.Kind refl (filter_kept, (anonymiser_kept, tt)) kept.1 in
     record {
@@ -157,10 +158,10 @@ domains_kept path entries a b = at (text_found K.OdidOnly entries) (text_found K
     at None (Some except) x y =
         domains_there except ((and_parts (not (is_there K.OdidOnly entries)) (are_domains except) (found_right path entries K.OdidExcept (S.DomainsWithout K.OdidOnly) except (λ value. refl) b y)).1)
 
-output_kept : (path : Path) (entries : Members) → whole_fault V.One Sort.Output path entries ≡ None → IsOutput (output_of entries)
+output_kept : (path : Path) (entries : Members) → whole_fault V.One Sort.Output path entries ≡ None → IsOutput (output_of V.One entries)
 unfolding whole_fault output_of rows_of kinds_of
 output_kept path entries e =
-    let own = (first_of_two (table_fault V.One Sort.Output path entries) (inner_fault V.One path entries (kind_of Sort.Output path entries)) e).0 in
+    let own = (first_of_two (table_fault V.One Sort.Output path entries) (inner_fault (table_fault V.One) V.One path entries (kind_of V.One Sort.Output path entries)) e).0 in
     let kept = table_kept Sort.Output path entries own in
     let ipfix : (es : Members) → IsOutputKind (output_in T.Ipfix es) = λ es. number_ranged K.LastTemplateId 256 65535 65535 es (lit≤ tt) (lit≤ tt) in
     let kind = kind_same Writes Sort.Output path entries kept.0 K.Kind refl ((refl, refl, λ es. tt), ((refl, refl, ipfix), ((refl, refl, λ es. tt), tt))) kept.1 in
@@ -175,8 +176,8 @@ abbrev arrays : List (Key × TableSort)
 arrays = (K.Input, Sort.Input) ∷ (K.Intermediate, Sort.Intermediate) ∷ (K.Output, Sort.Output) ∷ []
 
 conf_from : (entries : Members) → key_fault [] entries row.elements ≡ None → key_fault [] entries row.input ≡ None → key_fault [] entries row.intermediate ≡ None
-    → key_fault [] entries row.output ≡ None → arrays_fault (whole_fault V.One) [] arrays entries ≡ None → IsConf (conf_of entries)
-unfolding conf_of
+    → key_fault [] entries row.output ≡ None → arrays_fault (whole_fault V.One) [] arrays entries ≡ None → IsConf (conf_in V.One entries)
+unfolding conf_in
 conf_from entries elements input intermediate output e =
     let one = first_of_two (array_fault (whole_fault V.One Sort.Input) [] K.Input entries) _ e in
     let two = first_of_two (array_fault (whole_fault V.One Sort.Intermediate) [] K.Intermediate entries) _ one.1 in
@@ -185,26 +186,26 @@ conf_from entries elements input intermediate output e =
       ring = number_ranged K.Ring 1 4096 256 entries (lit≤ tt) (lit≤ tt);
       slots = number_ranged K.Slots 1 65536 65536 entries (lit≤ tt) (lit≤ tt);
       few_elements = places_counted [] entries K.Elements 16 elements;
-      few_inputs = optional_counted input_of [] entries K.Input 16 input;
-      inputs = tables_kept IsInput input_of (whole_fault V.One Sort.Input) input_kept [] K.Input entries one.0;
-      few_stages = optional_counted stage_of [] entries K.Intermediate 16 intermediate;
-      stages = tables_kept IsStage stage_of (whole_fault V.One Sort.Intermediate) stage_kept [] K.Intermediate entries two.0;
-      few_outputs = optional_counted output_of [] entries K.Output 32 output;
-      outputs = tables_kept IsOutput output_of (whole_fault V.One Sort.Output) output_kept [] K.Output entries three.0;
+      few_inputs = optional_counted (input_of V.One) [] entries K.Input 16 input;
+      inputs = tables_kept IsInput (input_of V.One) (whole_fault V.One Sort.Input) input_kept [] K.Input entries one.0;
+      few_stages = optional_counted (stage_of V.One) [] entries K.Intermediate 16 intermediate;
+      stages = tables_kept IsStage (stage_of V.One) (whole_fault V.One Sort.Intermediate) stage_kept [] K.Intermediate entries two.0;
+      few_outputs = optional_counted (output_of V.One) [] entries K.Output 32 output;
+      outputs = tables_kept IsOutput (output_of V.One) (whole_fault V.One Sort.Output) output_kept [] K.Output entries three.0;
     }
 
 conf_kept : (entries : Members) → tables_fault entries ≡ None → IsConf (conf_of entries)
 unfolding tables_fault top_kind rows_of children_of
-conf_kept entries e = by (is_one_table (items_at K.Input entries)) e
+conf_kept entries e = by (version_of entries) (is_one_table (items_at K.Input entries)) e
   where
-    by : (b : Bool) → option_or (own_fault [] (rows_of V.One (if b then T.SingleTop else T.Top)) entries) (arrays_fault (whole_fault V.One) [] (children_of (if b then T.SingleTop else T.Top)) entries) ≡ None
-        → IsConf (conf_of entries)
-    by true e =
+    by : (v : Version) (b : Bool) → option_or (own_fault [] (rows_of v (if b then T.SingleTop else T.Top)) entries) (arrays_fault (whole_fault v) [] (children_of v (if b then T.SingleTop else T.Top)) entries) ≡ None
+        → IsConf (conf_in v entries)
+    by V.One true e =
         let parts = first_of_two (own_fault [] (rows_of V.One T.SingleTop) entries) _ e in
         let keys = (first_of_two (unknown_fault [] (rows_of V.One T.SingleTop) entries) (keys_fault [] (rows_of V.One T.SingleTop) entries) parts.0).1 in
         conf_from entries (no_fault_at [] entries (rows_of V.One T.SingleTop) row.elements 3 keys refl) (no_fault_at [] entries (rows_of V.One T.SingleTop) row.input 4 keys refl)
         (no_fault_at [] entries (rows_of V.One T.SingleTop) row.intermediate 5 keys refl) (no_fault_at [] entries (rows_of V.One T.SingleTop) row.output 6 keys refl) parts.1
-    by false e =
+    by V.One false e =
         let parts = first_of_two (own_fault [] (rows_of V.One T.Top) entries) _ e in
         let keys = (first_of_two (unknown_fault [] (rows_of V.One T.Top) entries) (keys_fault [] (rows_of V.One T.Top) entries) parts.0).1 in
         conf_from entries (no_fault_at [] entries (rows_of V.One T.Top) row.elements 4 keys refl) (no_fault_at [] entries (rows_of V.One T.Top) row.input 5 keys refl)

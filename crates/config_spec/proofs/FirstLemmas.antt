@@ -5,6 +5,7 @@ use Rattle.std.specs.Prelude.{option_and_then}
 use Rattle.std.specs.List.{AllByRecursion}
 use Rattle.std.specs.Str.{bytes_eq}
 use Rattle.toml.specs.Data.{Data, Members, as_str, as_table}
+use Rattle.config_spec.specs.declared.key.Version.{Version}
 use Rattle.config_spec.specs.declared.key.Version.TheVariants as V
 use Rattle.config_spec.specs.declared.key.Key.{Key}
 use Rattle.config_spec.specs.declared.key.TableKind.{TableKind}
@@ -17,6 +18,10 @@ use Rattle.config_spec.specs.Keys.{word_of, kind_word, choice_of, kinds_of, rows
 use Rattle.config_spec.specs.Fits.{value_at, text_at, within}
 use Rattle.config_spec.specs.Faults.{Path, Check, verdict_fault, key_fault, keys_fault, unknown_fault, kind_named, strange, word_kind, value_kind, kind_of, kind_fault, table_fault, below, item_fault, items_fault, items_at, array_fault}
 use Rattle.config_spec.specs.Values.{put_table, each_table, tables_at, kind_at}
+
+-- there is one version
+pub same_version : (v w : Version) → v ≡ w
+same_version V.One V.One = refl
 
 pub first_of_two : (o p : Option ConfFault) → option_or o p ≡ None → (o ≡ None) × (p ≡ None)
 first_of_two None p e = (refl, e)
@@ -64,30 +69,30 @@ found_holds P (k ∷ kinds) word kind all e = test (bytes_eq (kind_word k) word)
 
 -- a kind that a table has is that of its word, and one of those that a word chooses from
 pub kind_same : (P : TableKind → Type 0) (sort : TableSort) (path : Path) (entries : Members) (kind : TableKind) (key : Key) → choice_of sort ≡ By key
-    → AllByRecursion P (kinds_of sort) → kind_of sort path entries ≡ Ok kind → (kind_at sort entries ≡ kind) × P kind
+    → AllByRecursion P (kinds_of V.One sort) → kind_of V.One sort path entries ≡ Ok kind → (kind_at V.One sort entries ≡ kind) × P kind
 unfolding kind_of kind_at text_at
 kind_same P sort path entries kind key by all e = rw by (at (value_at key entries) (rw by at e))
   where
-    named : (word : List ℕ) (o : Option TableKind) → kind_named (kinds_of sort) word ≡ o → ok_or o (strange sort (path ++ word_of key)) ≡ Ok kind → (unwrap_or o T.Top ≡ kind) × P kind
+    named : (word : List ℕ) (o : Option TableKind) → kind_named (kinds_of V.One sort) word ≡ o → ok_or o (strange sort (path ++ word_of key)) ≡ Ok kind → (unwrap_or o T.Top ≡ kind) × P kind
     named word None is e = absurd (cc)
-    named word (Some k) is e = let same : k ≡ kind = cc in (same, found_holds P (kinds_of sort) word kind all (rw (← same) is))
+    named word (Some k) is e = let same : k ≡ kind = cc in (same, found_holds P (kinds_of V.One sort) word kind all (rw (← same) is))
 
-    text : (o : Option (List ℕ)) → word_kind sort (path ++ word_of key) o ≡ Ok kind → (unwrap_or (kind_named (kinds_of sort) (unwrap_or o [])) T.Top ≡ kind) × P kind
+    text : (o : Option (List ℕ)) → word_kind V.One sort (path ++ word_of key) o ≡ Ok kind → (unwrap_or (kind_named (kinds_of V.One sort) (unwrap_or o [])) T.Top ≡ kind) × P kind
     text None e = absurd (cc)
-    text (Some word) e = named word (kind_named (kinds_of sort) word) refl e
+    text (Some word) e = named word (kind_named (kinds_of V.One sort) word) refl e
 
-    at : (found : Option Data) → value_kind sort (path ++ word_of key) found ≡ Ok kind
-        → (unwrap_or (kind_named (kinds_of sort) (unwrap_or (option_and_then as_str found) [])) T.Top ≡ kind) × P kind
+    at : (found : Option Data) → value_kind V.One sort (path ++ word_of key) found ≡ Ok kind
+        → (unwrap_or (kind_named (kinds_of V.One sort) (unwrap_or (option_and_then as_str found) [])) T.Top ≡ kind) × P kind
     at None e = absurd (cc)
     at (Some value) e = text (as_str value) e
 
 -- the kind of a table without a fault, whose keys have none
 pub table_kept : (sort : TableSort) (path : Path) (entries : Members) → table_fault V.One sort path entries ≡ None
-    → (kind : TableKind) × (kind_of sort path entries ≡ Ok kind) × (keys_fault path (rows_of V.One kind) entries ≡ None)
+    → (kind : TableKind) × (kind_of V.One sort path entries ≡ Ok kind) × (keys_fault path (rows_of V.One kind) entries ≡ None)
 unfolding table_fault
-table_kept sort path entries e = at (kind_of sort path entries) refl e
+table_kept sort path entries e = at (kind_of V.One sort path entries) refl e
   where
-    at : (r : Result TableKind ConfFault) → kind_of sort path entries ≡ r → kind_fault V.One path entries r ≡ None
-        → (kind : TableKind) × (kind_of sort path entries ≡ Ok kind) × (keys_fault path (rows_of V.One kind) entries ≡ None)
+    at : (r : Result TableKind ConfFault) → kind_of V.One sort path entries ≡ r → kind_fault V.One path entries r ≡ None
+        → (kind : TableKind) × (kind_of V.One sort path entries ≡ Ok kind) × (keys_fault path (rows_of V.One kind) entries ≡ None)
     at (Err fault) is e = absurd (cc)
     at (Ok kind) is e = (kind, is, (first_of_two (unknown_fault path (rows_of V.One kind) entries) _ e).1)

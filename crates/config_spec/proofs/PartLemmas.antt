@@ -11,6 +11,7 @@ use Rattle.std.proofs.lemmas.Bool.Decides.{nat_tests}
 use Rattle.std.proofs.lemmas.Map.Text.{is_eq-slice_cmp}
 use Rattle.std.proofs.lemmas.Slice.Eq.{bytes_eq-Decides}
 use Rattle.toml.specs.Data.{Data, Members, no_members, member, get_member}
+use Rattle.config_spec.specs.declared.key.Version.{Version}
 use Rattle.config_spec.specs.declared.key.Version.TheVariants as V
 use Rattle.config_spec.specs.declared.key.Key.TheVariants as K
 use Rattle.config_spec.specs.declared.key.TableKind.TheVariants as T
@@ -20,8 +21,8 @@ use Rattle.config_spec.specs.declared.fault.ConfFault.TheVariants.{UnknownKey, N
 use Rattle.config_spec.specs.Keys as row
 use Rattle.config_spec.specs.Keys.{word_of, rows_of, children_of}
 use Rattle.config_spec.specs.Fits.{text_found, is_table}
-use Rattle.config_spec.specs.Faults.{Path, is_known, unknown_words, least, unknown_fault, key_fault, keys_fault, own_fault, arrays_fault, whole_fault, items_at, is_one_table, top_kind, tables_fault}
-use Rattle.config_spec.specs.Values.{each_table, tables_at, input_of, conf_of}
+use Rattle.config_spec.specs.Faults.{Path, is_known, unknown_words, least, unknown_fault, key_fault, keys_fault, own_fault, arrays_fault, whole_fault, items_at, is_one_table, top_kind, version_of, tables_fault}
+use Rattle.config_spec.specs.Values.{each_table, tables_at, input_of, conf_in, conf_of}
 use Rattle.config_spec.specs.Repeats.{repeat_fault, names_of, paths_of, prefixes_fault}
 use Rattle.config_spec.specs.Form.{HasParts}
 use Rattle.config_spec.specs.Description.{fault_if, no_input, no_output, no_order_log, tree_fault, unless_fault, tree_of, tree_conf, description}
@@ -82,23 +83,23 @@ input_fits : (entries : Members) → keys_fault [] (rows_of V.One T.Top) entries
 unfolding rows_of
 input_fits entries e = no_fault_at [] entries (rows_of V.One T.Top) row.input 5 e refl
 
-log_needs : (entries : Members) → tables_fault entries ≡ None → 1 ≤ length (tables_at input_of K.Input entries) → is_some (text_found K.OrderLog entries) ≡ true
-    → 2 ≤ length (tables_at input_of K.Input entries)
+log_needs : (entries : Members) → tables_fault entries ≡ None → 1 ≤ length (tables_at (input_of (version_of entries)) K.Input entries) → is_some (text_found K.OrderLog entries) ≡ true
+    → 2 ≤ length (tables_at (input_of (version_of entries)) K.Input entries)
 unfolding tables_fault top_kind tables_at
-log_needs entries e some log = by (is_one_table (items_at K.Input entries)) refl e
+log_needs entries e some log = by (version_of entries) (is_one_table (items_at K.Input entries)) refl some e
   where
-    by : (b : Bool) → is_one_table (items_at K.Input entries) ≡ b
-        → option_or (own_fault [] (rows_of V.One (if b then T.SingleTop else T.Top)) entries) (arrays_fault (whole_fault V.One) [] (children_of (if b then T.SingleTop else T.Top)) entries) ≡ None
-        → 2 ≤ length (each_table input_of (items_at K.Input entries))
-    by true is e =
+    by : (v : Version) (b : Bool) → is_one_table (items_at K.Input entries) ≡ b → 1 ≤ length (each_table (input_of v) (items_at K.Input entries))
+        → option_or (own_fault [] (rows_of v (if b then T.SingleTop else T.Top)) entries) (arrays_fault (whole_fault v) [] (children_of v (if b then T.SingleTop else T.Top)) entries) ≡ None
+        → 2 ≤ length (each_table (input_of v) (items_at K.Input entries))
+    by V.One true is some e =
         let own = first_of_two (own_fault [] (rows_of V.One T.SingleTop) entries) _ e in
         let none = no_log entries (first_of_two (unknown_fault [] (rows_of V.One T.SingleTop) entries) (keys_fault [] (rows_of V.One T.SingleTop) entries) own.0).0 in
         let other : is_some (text_found K.OrderLog entries) ≡ false = rw none refl in
         absurd (cc)
-    by false is e =
+    by V.One false is some e =
         let own = first_of_two (own_fault [] (rows_of V.One T.Top) entries) _ e in
         let all = optional_tables [] entries K.Input 16 (input_fits entries (first_of_two (unknown_fault [] (rows_of V.One T.Top) entries) (keys_fault [] (rows_of V.One T.Top) entries) own.0).1) in
-        let same = all_tables input_of (items_at K.Input entries) all in
+        let same = all_tables (input_of V.One) (items_at K.Input entries) all in
         let two = many (items_at K.Input entries) is all (subst (λ n. 1 ≤ n) same some) in
         subst (λ n. 2 ≤ n) (sym same) two
 
@@ -107,7 +108,7 @@ log_there n true e h = refl
 log_there n false e h = let two = le-leb 2 n h in absurd (grind (arith, nat_tests))
 
 parts_kept : (entries : Members) → tree_fault entries ≡ None → HasParts (conf_of entries)
-unfolding tree_fault conf_of
+unfolding tree_fault conf_in
 parts_kept entries e =
     let tables = first_of_two (tables_fault entries) _ e in
     let input = first_of_two (no_input (conf_of entries)) _ tables.1 in

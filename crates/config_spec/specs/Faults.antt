@@ -1,9 +1,9 @@
 -- The first fault of the tables of a description.
-use Rattle.std.specs.Prelude.{ℕ, ◌+◌, Result, Ok, Err, List, [], ◌∷◌, ◌++◌, map, Option, Some, None, option_and_then, option_map, not, Bool, false, if◌then◌else◌, find}
+use Rattle.std.specs.Prelude.{ℕ, ◌+◌, ◌-◌, slice_get, Result, Ok, Err, List, [], ◌∷◌, ◌++◌, map, Option, Some, None, option_and_then, option_map, not, Bool, false, if◌then◌else◌, find}
 use Rattle.std.specs.List.{list_any, filter}
 use Rattle.std.specs.Ordering.{nat_cmp, is_lt}
 use Rattle.std.specs.Cmp.Lexicographic.{slice_cmp}
-use Rattle.std.specs.Option.{option_or, ok_or}
+use Rattle.std.specs.Option.{option_or, ok_or, unwrap_or}
 use Rattle.std.specs.Str.{bytes_eq}
 use Rattle.std.specs.Fmt.{decimal}
 use Rattle.toml.specs.Data.{Data, Items, Members, no_members, member, as_str, as_array, as_table}
@@ -18,6 +18,7 @@ use Rattle.config_spec.specs.declared.key.TableSort.TheVariants as Sort
 use Rattle.config_spec.specs.declared.key.Choice.{Choice}
 use Rattle.config_spec.specs.declared.key.Choice.TheVariants.{By, Always}
 use Rattle.config_spec.specs.declared.key_row.KeyRow.{KeyRow}
+use Rattle.config_spec.specs.declared.key_row.Shape.{Shape}
 use Rattle.config_spec.specs.declared.key_row.Need.{Need}
 use Rattle.config_spec.specs.declared.key_row.Need.TheVariants as N
 use Rattle.config_spec.specs.declared.key_row.Verdict.{Verdict}
@@ -25,8 +26,8 @@ use Rattle.config_spec.specs.declared.key_row.Verdict.TheVariants as R
 use Rattle.config_spec.specs.declared.fault.ConfFault.{ConfFault}
 use Rattle.config_spec.specs.declared.fault.ConfFault.TheVariants.{UnknownKey, Missing, WrongType, OutOfRange, UnknownPlugin}
 use Rattle.config_spec.specs.First.{first_fault}
-use Rattle.config_spec.specs.Keys.{word_of, kind_word, choice_of, kinds_of, children_of, rows_of}
-use Rattle.config_spec.specs.Fits.{value_at, items_list, is_table, fits}
+use Rattle.config_spec.specs.Keys.{versions, word_of, kind_word, choice_of, kinds_of, children_of, rows_of}
+use Rattle.config_spec.specs.Fits.{value_at, least_at, items_list, is_table, fits, default_fits}
 
 -- the path to a table: it ends in a dot, but that of the top table is empty
 abbrev pub Path : Type 0
@@ -41,15 +42,16 @@ verdict_fault at R.Right = None
 verdict_fault at R.WrongType = Some (WrongType at)
 verdict_fault at R.OutOfRange = Some (OutOfRange at)
 
-abbrev pub absent_fault : Path → Need → Option ConfFault
-absent_fault at N.Required = Some (Missing at)
-absent_fault at N.Optional = None
-absent_fault at (N.Number default) = None
-absent_fault at (N.Flag default) = None
+-- the fault of a key that is left out: a number that stands for it is judged as one that is there
+abbrev pub absent_fault : Path → Members → Shape → Need → Option ConfFault
+absent_fault at entries shape N.Required = Some (Missing at)
+absent_fault at entries shape N.Optional = None
+absent_fault at entries shape (N.Number default) = verdict_fault at (default_fits shape entries default)
+absent_fault at entries shape (N.Flag default) = None
 
 -- the fault of a key whose value may not be there
 abbrev pub value_fault : Path → Members → KeyRow → Option Data → Option ConfFault
-value_fault path entries row None = absent_fault (path ++ word_of row.key) row.need
+value_fault path entries row None = absent_fault (path ++ word_of row.key) entries row.shape row.need
 value_fault path entries row (Some value) = verdict_fault (path ++ word_of row.key) (fits row.shape entries value)
 
 unfoldable pub key_fault : Path → Members → KeyRow → Option ConfFault
@@ -97,21 +99,21 @@ abbrev pub strange : TableSort → Path → ConfFault
 strange Sort.Rule at = OutOfRange at
 strange _ at = UnknownPlugin at
 
-abbrev pub word_kind : TableSort → Path → Option (List ℕ) → Result TableKind ConfFault
-word_kind sort at None = Err (WrongType at)
-word_kind sort at (Some word) = ok_or (kind_named (kinds_of sort) word) (strange sort at)
+abbrev pub word_kind : Version → TableSort → Path → Option (List ℕ) → Result TableKind ConfFault
+word_kind version sort at None = Err (WrongType at)
+word_kind version sort at (Some word) = ok_or (kind_named (kinds_of version sort) word) (strange sort at)
 
-abbrev pub value_kind : TableSort → Path → Option Data → Result TableKind ConfFault
-value_kind sort at None = Err (Missing at)
-value_kind sort at (Some value) = word_kind sort at (as_str value)
+abbrev pub value_kind : Version → TableSort → Path → Option Data → Result TableKind ConfFault
+value_kind version sort at None = Err (Missing at)
+value_kind version sort at (Some value) = word_kind version sort at (as_str value)
 
-abbrev pub chosen_kind : TableSort → Path → Members → Choice → Result TableKind ConfFault
-chosen_kind sort path entries (By key) = value_kind sort (path ++ word_of key) (value_at key entries)
-chosen_kind sort path entries (Always kind) = Ok kind
+abbrev pub chosen_kind : Version → TableSort → Path → Members → Choice → Result TableKind ConfFault
+chosen_kind version sort path entries (By key) = value_kind version sort (path ++ word_of key) (value_at key entries)
+chosen_kind version sort path entries (Always kind) = Ok kind
 
 -- the kind of a table, or why it has none
-unfoldable pub kind_of : TableSort → Path → Members → Result TableKind ConfFault
-kind_of sort path entries = chosen_kind sort path entries (choice_of sort)
+unfoldable pub kind_of : Version → TableSort → Path → Members → Result TableKind ConfFault
+kind_of version sort path entries = chosen_kind version sort path entries (choice_of sort)
 
 abbrev pub kind_fault : Version → Path → Members → Result TableKind ConfFault → Option ConfFault
 kind_fault version path entries (Err fault) = Some fault
@@ -119,7 +121,7 @@ kind_fault version path entries (Ok kind) = own_fault path (rows_of version kind
 
 -- the first fault of a table itself: its kind, then a key that it doesn't have, then key by key
 unfoldable pub table_fault : Version → TableSort → Path → Members → Option ConfFault
-table_fault version sort path entries = kind_fault version path entries (kind_of sort path entries)
+table_fault version sort path entries = kind_fault version path entries (kind_of version sort path entries)
 
 -- a check says the first fault of a table at a path
 abbrev pub Check : Type 0
@@ -154,14 +156,17 @@ arrays_fault check path [] entries = None
 arrays_fault check path (child ∷ more) entries =
     option_or (array_fault (check child.1) path child.0 entries) (arrays_fault check path more entries)
 
-abbrev pub inner_fault : Version → Path → Members → Result TableKind ConfFault → Option ConfFault
-inner_fault version path entries (Err fault) = None
-inner_fault version path entries (Ok kind) = arrays_fault (table_fault version) path (children_of kind) entries
+abbrev pub inner_fault : (TableSort → Check) → Version → Path → Members → Result TableKind ConfFault → Option ConfFault
+inner_fault check version path entries (Err fault) = None
+inner_fault check version path entries (Ok kind) = arrays_fault check path (children_of version kind) entries
 
--- the first fault of a table, and then of the tables in it
-unfoldable pub whole_fault : Version → TableSort → Path → Members → Option ConfFault
-whole_fault version sort path entries =
-    option_or (table_fault version sort path entries) (inner_fault version path entries (kind_of sort path entries))
+-- the first fault of a table, and then of the tables in it, each by a check of its own
+abbrev pub nested_fault : (TableSort → Check) → Version → TableSort → Check
+nested_fault inner version sort path entries = option_or (table_fault version sort path entries) (inner_fault inner version path entries (kind_of version sort path entries))
+
+-- the first fault of a table in an array of the top table: in it stand tables that have none in them
+unfoldable pub whole_fault : Version → TableSort → Check
+whole_fault V.One sort path entries = nested_fault (table_fault V.One) V.One sort path entries
 
 -- one item, which is a table
 abbrev pub is_one_table : List Data → Bool
@@ -172,8 +177,15 @@ is_one_table _ = false
 unfoldable pub top_kind : Members → TableKind
 top_kind entries = if is_one_table (items_at K.Input entries) then T.SingleTop else T.Top
 
+-- the version that a top table names; where it names none, which is a fault, the first
+abbrev pub version_of : Members → Version
+version_of entries = unwrap_or (slice_get versions (least_at K.Version entries - 1)) V.One
+
+abbrev pub top_fault : Version → Members → Option ConfFault
+top_fault version entries = option_or (own_fault [] (rows_of version (top_kind entries)) entries)
+    (arrays_fault (whole_fault version) [] (children_of version (top_kind entries)) entries)
+
 -- the first fault of a description's tables: the top table's, then that of each input, each intermediate
 -- and each output with the tables in it
 unfoldable pub tables_fault : Members → Option ConfFault
-tables_fault entries = option_or (own_fault [] (rows_of V.One (top_kind entries)) entries)
-    (arrays_fault (whole_fault V.One) [] (children_of (top_kind entries)) entries)
+tables_fault entries = top_fault (version_of entries) entries

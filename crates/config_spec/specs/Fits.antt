@@ -133,6 +133,12 @@ abbrev pub array_fits : (List Data → Verdict) → Option Items → Verdict
 array_fits test None = WrongType
 array_fits test (Some items) = test (items_list items)
 
+-- what a default is where this is asked: a number alone may be out of range
+abbrev pub default_fits : Shape → Members → ℕ → Verdict
+default_fits (S.Number low high) entries default = within (nat_le low default && nat_le default high)
+default_fits (S.From key high) entries default = within (nat_le (least_at key entries) default && nat_le default high)
+default_fits shape entries default = Right
+
 -- whether a text is right where a text is asked, in the table that it stands in
 unfoldable pub text_test : Shape → Members → List ℕ → Bool
 text_test S.Name entries text = is_name text

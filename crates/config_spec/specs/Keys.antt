@@ -1,6 +1,6 @@
--- The keys of each table of a description, and what their values have to be. What later versions add, they
--- add here.
-use Rattle.std.specs.Prelude.{ℕ, Bool, true, List, [], ◌∷◌, codes}
+-- The versions of a description, the kinds and the keys of its tables by version, and what their values have to be. A
+-- later version adds its rows here, and changes none of those before.
+use Rattle.std.specs.Prelude.{ℕ, Bool, true, List, [], ◌∷◌, length, codes}
 use Rattle.config_spec.specs.declared.key.Version.{Version}
 use Rattle.config_spec.specs.declared.key.Version.TheVariants as V
 use Rattle.config_spec.specs.declared.key.Key.{Key}
@@ -15,6 +15,10 @@ use Rattle.config_spec.specs.declared.key_row.KeyRow.{KeyRow}
 use Rattle.config_spec.specs.declared.key_row.Shape.{Shape}
 use Rattle.config_spec.specs.declared.key_row.Shape.TheVariants as S
 use Rattle.config_spec.specs.declared.key_row.Need.TheVariants as N
+
+-- the versions, from 1 on
+abbrev pub versions : List Version
+versions = V.One ∷ []
 
 -- a key as it is written
 unfoldable pub word_of : Key → List ℕ
@@ -84,21 +88,21 @@ choice_of Sort.Field = Always T.Field
 choice_of Sort.Row = Always T.Row
 
 -- the kinds that a word chooses from
-unfoldable pub kinds_of : TableSort → List TableKind
-kinds_of Sort.Input = T.File ∷ T.Tcp ∷ T.Udp ∷ []
-kinds_of Sort.Intermediate = T.Filter ∷ T.Anonymise ∷ []
-kinds_of Sort.Output = T.Json ∷ T.Ipfix ∷ T.View ∷ []
-kinds_of Sort.Rule = T.Present ∷ T.Equal ∷ T.Between ∷ T.Prefix ∷ []
-kinds_of Sort.Field = []
-kinds_of Sort.Row = []
+unfoldable pub kinds_of : Version → TableSort → List TableKind
+kinds_of V.One Sort.Input = T.File ∷ T.Tcp ∷ T.Udp ∷ []
+kinds_of V.One Sort.Intermediate = T.Filter ∷ T.Anonymise ∷ []
+kinds_of V.One Sort.Output = T.Json ∷ T.Ipfix ∷ T.View ∷ []
+kinds_of V.One Sort.Rule = T.Present ∷ T.Equal ∷ T.Between ∷ T.Prefix ∷ []
+kinds_of V.One Sort.Field = []
+kinds_of V.One Sort.Row = []
 
 -- the arrays of tables in a table of a kind, in their order
-unfoldable pub children_of : TableKind → List (Key × TableSort)
-children_of T.Top = (K.Input, Sort.Input) ∷ (K.Intermediate, Sort.Intermediate) ∷ (K.Output, Sort.Output) ∷ []
-children_of T.SingleTop = (K.Input, Sort.Input) ∷ (K.Intermediate, Sort.Intermediate) ∷ (K.Output, Sort.Output) ∷ []
-children_of T.Filter = (K.Rule, Sort.Rule) ∷ []
-children_of T.Anonymise = (K.Field, Sort.Field) ∷ (K.Row, Sort.Row) ∷ []
-children_of _ = []
+unfoldable pub children_of : Version → TableKind → List (Key × TableSort)
+children_of V.One T.Top = (K.Input, Sort.Input) ∷ (K.Intermediate, Sort.Intermediate) ∷ (K.Output, Sort.Output) ∷ []
+children_of V.One T.SingleTop = (K.Input, Sort.Input) ∷ (K.Intermediate, Sort.Intermediate) ∷ (K.Output, Sort.Output) ∷ []
+children_of V.One T.Filter = (K.Rule, Sort.Rule) ∷ []
+children_of V.One T.Anonymise = (K.Field, Sort.Field) ∷ (K.Row, Sort.Row) ∷ []
+children_of V.One _ = []
 
 abbrev pub required : Key → Shape → KeyRow
 required key shape = record { key = key; shape = shape; need = N.Required }
@@ -121,7 +125,7 @@ abbrev pub seconds : Key → ℕ → KeyRow
 seconds key default = number key 1 1000000000 default
 
 abbrev pub version : KeyRow
-version = required K.Version (S.Number 1 1)
+version = required K.Version (S.Number 1 (length versions))
 
 abbrev pub ring : KeyRow
 ring = number K.Ring 1 4096 256

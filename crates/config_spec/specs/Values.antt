@@ -7,6 +7,7 @@ use Rattle.toml.specs.Data.{Data, Members, as_bool, as_integer, as_str, as_table
 use Rattle.col_base.specs.declared.base.Transport.{Transport}
 use Rattle.col_base.specs.declared.base.Transport.TheVariants as Over
 use Rattle.arrival_spec.specs.declared.input.InputSpec.{InputSpec}
+use Rattle.config_spec.specs.declared.key.Version.{Version}
 use Rattle.config_spec.specs.declared.key.Key.{Key}
 use Rattle.config_spec.specs.declared.key.Key.TheVariants as K
 use Rattle.config_spec.specs.declared.key.TableKind.{TableKind}
@@ -43,7 +44,7 @@ use Rattle.config_spec.specs.Texts.{address, prefix}
 use Rattle.config_spec.specs.Domains.{domains}
 use Rattle.config_spec.specs.Keys as row
 use Rattle.config_spec.specs.Fits.{value_at, text_found, text_at, least_at, keep_word}
-use Rattle.config_spec.specs.Faults.{kind_named, items_at}
+use Rattle.config_spec.specs.Faults.{kind_named, items_at, version_of}
 
 abbrev pub default_of : Need → ℕ
 default_of (N.Number n) = n
@@ -109,13 +110,13 @@ domain_set None None = D.All
 unfoldable pub domains_of : Members → DomainSet
 domains_of entries = domain_set (text_found K.OdidOnly entries) (text_found K.OdidExcept entries)
 
-abbrev pub chosen : TableSort → Members → Choice → TableKind
-chosen sort entries (By key) = unwrap_or (kind_named (row.kinds_of sort) (text_at key entries)) T.Top
-chosen sort entries (Always kind) = kind
+abbrev pub chosen : Version → TableSort → Members → Choice → TableKind
+chosen version sort entries (By key) = unwrap_or (kind_named (row.kinds_of version sort) (text_at key entries)) T.Top
+chosen version sort entries (Always kind) = kind
 
 -- the kind of a table that has one
-unfoldable pub kind_at : TableSort → Members → TableKind
-kind_at sort entries = chosen sort entries (row.choice_of sort)
+unfoldable pub kind_at : Version → TableSort → Members → TableKind
+kind_at version sort entries = chosen version sort entries (row.choice_of sort)
 
 abbrev pub put_table : {X : Type 0} → (Members → X) → Option Members → List X → List X
 put_table value None more = more
@@ -153,11 +154,11 @@ test_in T.Prefix entries = Is.Prefix (prefix_at K.Value entries)
 test_in _ entries = Is.Present
 
 -- a rule of a filter
-unfoldable pub rule_of : Members → Rule
-rule_of entries = record {
+unfoldable pub rule_of : Version → Members → Rule
+rule_of version entries = record {
   pen = number_of row.pen entries;
   id = number_of row.id entries;
-  test = test_in (kind_at Sort.Rule entries) entries;
+  test = test_in (kind_at version Sort.Rule entries) entries;
   keep = keeps row.act entries;
 }
 
@@ -173,16 +174,16 @@ anon_table_of entries = record {
   rows = tables_at anon_row_of K.Row entries;
 }
 
-abbrev pub filter_table_of : Members → FilterTable
-filter_table_of entries = record { rules = tables_at rule_of K.Rule entries; default_keep = keeps row.default_act entries }
+abbrev pub filter_table_of : Version → Members → FilterTable
+filter_table_of version entries = record { rules = tables_at (rule_of version) K.Rule entries; default_keep = keeps row.default_act entries }
 
-abbrev pub work_in : TableKind → Members → StageWork
-work_in T.Anonymise entries = W.Anonymise (anon_table_of entries)
-work_in _ entries = W.Filter (filter_table_of entries)
+abbrev pub work_in : Version → TableKind → Members → StageWork
+work_in version T.Anonymise entries = W.Anonymise (anon_table_of entries)
+work_in version _ entries = W.Filter (filter_table_of version entries)
 
 -- an intermediate
-unfoldable pub stage_of : Members → StageConf
-stage_of entries = record { name = text_at K.Name entries; work = work_in (kind_at Sort.Intermediate entries) entries }
+unfoldable pub stage_of : Version → Members → StageConf
+stage_of version entries = record { name = text_at K.Name entries; work = work_in version (kind_at version Sort.Intermediate entries) entries }
 
 abbrev pub transport_in : TableKind → Transport
 transport_in T.Tcp = Over.Tcp
@@ -195,17 +196,17 @@ place_in T.Udp entries = text_at K.Listen entries
 place_in _ entries = text_at K.Path entries
 
 -- where an input's events come from
-unfoldable pub spec_of : Members → InputSpec
-spec_of entries = record {
+unfoldable pub spec_of : Version → Members → InputSpec
+spec_of version entries = record {
   name = text_at K.Name entries;
-  transport = transport_in (kind_at Sort.Input entries);
-  place = place_in (kind_at Sort.Input entries) entries;
+  transport = transport_in (kind_at version Sort.Input entries);
+  place = place_in (kind_at version Sort.Input entries) entries;
 }
 
 -- an input
-unfoldable pub input_of : Members → InputConf
-input_of entries = record {
-  spec = spec_of entries;
+unfoldable pub input_of : Version → Members → InputConf
+input_of version entries = record {
+  spec = spec_of version entries;
   stop_after = number_of row.stop_after entries;
   life = record {
     template = number_of row.template_lifetime entries;
@@ -221,25 +222,29 @@ output_in T.Ipfix entries = O.Ipfix (number_of row.last_template_id entries)
 output_in _ entries = O.View
 
 -- an output
-unfoldable pub output_of : Members → OutputConf
-output_of entries = record {
+unfoldable pub output_of : Version → Members → OutputConf
+output_of version entries = record {
   name = text_at K.Name entries;
   path = text_at K.Path entries;
-  kind = output_in (kind_at Sort.Output entries) entries;
+  kind = output_in (kind_at version Sort.Output entries) entries;
   domains = domains_of entries;
 }
 
 abbrev pub order_log_of : Members → Option (List ℕ)
 order_log_of entries = text_found K.OrderLog entries
 
--- the description of a top table
-unfoldable pub conf_of : Members → Conf
-conf_of entries = record {
+-- the description of a top table of a version
+unfoldable pub conf_in : Version → Members → Conf
+conf_in version entries = record {
   ring = number_of row.ring entries;
   slots = number_of row.slots entries;
   order_log = order_log_of entries;
   elements = texts_at K.Elements entries;
-  inputs = tables_at input_of K.Input entries;
-  stages = tables_at stage_of K.Intermediate entries;
-  outputs = tables_at output_of K.Output entries;
+  inputs = tables_at (input_of version) K.Input entries;
+  stages = tables_at (stage_of version) K.Intermediate entries;
+  outputs = tables_at (output_of version) K.Output entries;
 }
+
+-- the description of a top table
+abbrev pub conf_of : Members → Conf
+conf_of entries = conf_in (version_of entries) entries

@@ -4,8 +4,8 @@ ghost use Rattle.std.specs.List.{list_any, before_first, after_first};
 ghost use Rattle.config_spec.specs.Texts.{address4, address6, address, has_dot, top_bits, masked, prefix_with, prefix};
 ghost use Rattle.startup_config.specs.Address.{octets_in, parts_with};
 
+use crate::decimal_text::number_text;
 use crate::marks::cut;
-use crate::number_text::number_text;
 use col_base::Octets;
 use config_spec::Prefix;
 use std::alloc::{AllocError, Global};

@@ -5,11 +5,11 @@ ghost use Rattle.config_spec.specs.First.{IsMemory, first_fault};
 ghost use Rattle.config_spec.specs.Form.{IsConf, HasParts};
 ghost use Rattle.config_spec.specs.Description.{no_input, no_output, no_order_log, whole_faults, tree_of, tree_conf, description};
 
-use crate::made::conf_of;
+use crate::made::conf_in;
 use crate::repeats::{names_differ, paths_differ, prefixes_differ};
 use crate::tree::items_at;
-use crate::whole::tables_fit;
-use config_spec::{Conf, ConfFault, Key};
+use crate::whole::{tables_fit, version_of};
+use config_spec::{Conf, ConfFault, Key, Version};
 use std::alloc::Global;
 use toml::Table;
 
@@ -50,7 +50,7 @@ fn has_log(conf: &Conf) -> Result<(), ConfFault>
 }
 
 /// Refuses what is wrong with a description whose tables have no fault.
-fn whole_fits(alloc: Global, table: &Table, conf: &Conf) -> Result<(), ConfFault>
+fn whole_fits(alloc: Global, version: Version, table: &Table, conf: &Conf) -> Result<(), ConfFault>
     ensures ok { OnOk result (first_fault (whole_faults (table_view table.now) conf.now) ≡ None) }
     ensures err { IfErr result (λ fault. ¬ (IsMemory fault) → first_fault (whole_faults (table_view table.now) conf.now) ≡ Some fault) }
 {
@@ -58,7 +58,7 @@ fn whole_fits(alloc: Global, table: &Table, conf: &Conf) -> Result<(), ConfFault
     has_output(conf)?;
     names_differ(alloc, conf)?;
     paths_differ(alloc, conf)?;
-    prefixes_differ(alloc, items_at(Key::Intermediate, table))?;
+    prefixes_differ(alloc, version, items_at(Key::Intermediate, table))?;
     has_log(conf)
 }
 
@@ -89,8 +89,9 @@ fn tree_conf(alloc: Global, table: &Table) -> Result<Conf, ConfFault>
     ensures err { IfErr result (λ fault. ¬ (IsMemory fault) → tree_conf (Some (table_view table.now)) ≡ Err fault) }
 {
     tables_fit(alloc, table)?;
-    let conf = conf_of(alloc, table)?;
-    whole_fits(alloc, table, &conf)?;
+    let version = version_of(table);
+    let conf = conf_in(alloc, version, table)?;
+    whole_fits(alloc, version, table, &conf)?;
     Ok(conf)
 }
 

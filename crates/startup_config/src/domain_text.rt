@@ -2,8 +2,8 @@
 ghost use Rattle.std.specs.Prelude.{◌≡◌, Some, None, map, option_map, IfOk};
 ghost use Rattle.config_spec.specs.Domains.{domain_text, range_of, all_there, pieces, domains};
 
+use crate::decimal_text::number_text;
 use crate::marks::cut;
-use crate::number_text::number_text;
 use config_spec::{DomainRange, Ranges};
 use std::alloc::{AllocError, Global};
 

@@ -3,7 +3,7 @@ ghost use Rattle.std.specs.Prelude.{◌≡◌, pos, map, IfOk};
 ghost use Rattle.std.specs.List.{list_all};
 ghost use Rattle.toml.specs.View.{view, table_view};
 ghost use Rattle.config_spec.specs.Texts.{address, prefix};
-ghost use Rattle.config_spec.specs.Fits.{number_or_zero, least_at, fits, is_name, is_name_octet, is_place, is_act, is_prefix, is_like, are_domains, is_there, is_between, within, is_table, is_text, is_place_item, tables_fit, places_fit, number_fits, text_test};
+ghost use Rattle.config_spec.specs.Fits.{number_or_zero, least_at, fits, default_fits, is_name, is_name_octet, is_place, is_act, is_prefix, is_like, are_domains, is_there, is_between, within, is_table, is_text, is_place_item, tables_fit, places_fit, number_fits, text_test};
 
 use crate::address::{address, prefix_parts};
 use crate::domain_text::domains;
@@ -228,6 +228,27 @@ pub fn fits(
             Some(text) => Ok(within(text_fits(alloc, shape, table, text)?)),
             None => Ok(Verdict::WrongType),
         },
+    }
+}
+
+/// What a default is for this shape, in the table where it is left out.
+pub fn default_fits(shape: Shape, table: &Table, default: u64) -> Verdict
+    ensures { result ≡ default_fits shape (table_view table.now) default }
+{
+    match shape {
+        Shape::Number(low, high) => within(low <= default && default <= high),
+        Shape::From(key, high) => within(least_at(key, table) <= default && default <= high),
+        Shape::Chosen
+        | Shape::Name
+        | Shape::Place
+        | Shape::Places(_)
+        | Shape::Tables(_, _)
+        | Shape::Act
+        | Shape::Flag
+        | Shape::Prefix
+        | Shape::Like(_)
+        | Shape::Domains
+        | Shape::DomainsWithout(_) => Verdict::Right,
     }
 }
 

@@ -5,13 +5,13 @@
 #![tactic(auto)]
 
 mod address;
+mod decimal_text;
 mod description;
 mod domain_text;
 mod fault;
 mod fits;
 mod made;
 mod marks;
-mod number_text;
 mod repeats;
 mod rows;
 mod tables;
@@ -27,5 +27,6 @@ pub use config_spec::{
     Inputs, Listed, Names, OutputConf, OutputKind, Outputs, Pair, Pairs, Prefix, Ranges, Rule,
     Rules, StageConf, StageWork, Stages, Test,
 };
+pub use decimal_text::number_text;
 pub use description::read;
 pub use fault::fault_text;

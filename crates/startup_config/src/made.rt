@@ -1,8 +1,9 @@
 // What the tables of a description stand for.
 ghost use Rattle.std.specs.Prelude.{◌≡◌, ◌++◌, IfOk, map, Some, None};
 ghost use Rattle.toml.specs.Data.{Members};
+ghost use Rattle.config_spec.specs.declared.key.Version.{Version};
 ghost use Rattle.toml.specs.View.{view, table_view};
-ghost use Rattle.config_spec.specs.Values.{each_table, tables_at, each_text, texts_at, pair_of, test_in, rule_of, anon_row_of, anon_table_of, filter_table_of, work_in, stage_of, transport_in, place_in, spec_of, input_of, output_in, output_of, order_log_of, conf_of};
+ghost use Rattle.config_spec.specs.Values.{each_table, tables_at, each_text, texts_at, pair_of, test_in, rule_of, anon_row_of, anon_table_of, filter_table_of, work_in, stage_of, transport_in, place_in, spec_of, input_of, output_in, output_of, order_log_of, conf_in};
 
 use crate::rows::{
     ACT, CUT4, CUT6, DEFAULT_ACT, HIGH, ID, IDLE, LAST_TEMPLATE_ID, LATE, LOW, OPTIONS,
@@ -17,27 +18,31 @@ use arrival_spec::InputSpec;
 use col_base::{Lifetimes, Text, Transport};
 use config_spec::{
     AnonRow, AnonTable, Conf, FilterTable, InputConf, Key, Listed, Names, OutputConf, OutputKind,
-    Pair, Rule, StageConf, StageWork, TableKind, TableSort, Test,
+    Pair, Rule, StageConf, StageWork, TableKind, TableSort, Test, Version,
 };
 use std::alloc::{AllocError, Global};
 use toml::{Table, Value};
 
 /// What a table stands for.
 pub trait FromTable: Drop {
-    /// What the table with these keys stands for.
-    ghost value: { Members → Self };
+    /// What the table with these keys stands for, in a description of a version.
+    ghost value: { Version → Members → Self };
 
-    fn from_table(alloc: Global, table: &Table) -> Result<Self, AllocError>
-        ensures { IfOk result (λ made. made ≡ value (table_view table.now)) };
+    fn from_table(alloc: Global, version: Version, table: &Table) -> Result<Self, AllocError>
+        ensures { IfOk result (λ made. made ≡ value version (table_view table.now)) };
 }
 
-fn each_table<T: FromTable>(alloc: Global, items: &[Value]) -> Result<Vec<T>, AllocError>
-    ensures { IfOk result (λ made. made.items ≡ each_table T.value (map view items.now)) }
+fn each_table<T: FromTable>(
+    alloc: Global,
+    version: Version,
+    items: &[Value],
+) -> Result<Vec<T>, AllocError>
+    ensures { IfOk result (λ made. made.items ≡ each_table (T.value version) (map view items.now)) }
 {
     let mut made = Vec::new(alloc);
     for item in items {
         if let Some(table) = item.as_table() {
-            made.push(T::from_table(alloc, table)?)?;
+            made.push(T::from_table(alloc, version, table)?)?;
         }
     }
     Ok(made)
@@ -47,12 +52,13 @@ fn each_table<T: FromTable>(alloc: Global, items: &[Value]) -> Result<Vec<T>, Al
 #[tactic(auto, unfolding(config_spec::specs::Values::tables_at))]
 pub fn tables_at<T: FromTable>(
     alloc: Global,
+    version: Version,
     key: Key,
     table: &Table,
 ) -> Result<Listed<T>, AllocError>
-    ensures { IfOk result (λ made. made ≡ tables_at T.value key (table_view table.now)) }
+    ensures { IfOk result (λ made. made ≡ tables_at (T.value version) key (table_view table.now)) }
 {
-    Ok(Listed::from_vec(each_table(alloc, items_at(key, table))?))
+    Ok(Listed::from_vec(each_table(alloc, version, items_at(key, table))?))
 }
 
 fn each_text(alloc: Global, items: &[Value]) -> Result<Vec<Text>, AllocError>
@@ -76,10 +82,10 @@ fn texts_at(alloc: Global, key: Key, table: &Table) -> Result<Names, AllocError>
 }
 
 impl FromTable for Pair {
-    ghost value = { pair_of };
+    ghost value = { λ version. pair_of };
 
     #[tactic(auto, unfolding(config_spec::specs::Values::pair_of))]
-    fn from_table(alloc: Global, table: &Table) -> Result<Pair, AllocError> {
+    fn from_table(alloc: Global, _version: Version, table: &Table) -> Result<Pair, AllocError> {
         Ok(Pair {
             pen: long_of(&PEN, table),
             id: short_of(&ID, table),
@@ -103,21 +109,21 @@ impl FromTable for Rule {
     ghost value = { rule_of };
 
     #[tactic(auto, unfolding(config_spec::specs::Values::rule_of))]
-    fn from_table(alloc: Global, table: &Table) -> Result<Rule, AllocError> {
+    fn from_table(alloc: Global, version: Version, table: &Table) -> Result<Rule, AllocError> {
         Ok(Rule {
             pen: long_of(&PEN, table),
             id: short_of(&ID, table),
-            test: test_in(alloc, kind_at(TableSort::Rule, table), table)?,
+            test: test_in(alloc, kind_at(version, TableSort::Rule, table), table)?,
             keep: keeps(&ACT, table),
         })
     }
 }
 
 impl FromTable for AnonRow {
-    ghost value = { anon_row_of };
+    ghost value = { λ version. anon_row_of };
 
     #[tactic(auto, unfolding(config_spec::specs::Values::anon_row_of))]
-    fn from_table(alloc: Global, table: &Table) -> Result<AnonRow, AllocError> {
+    fn from_table(alloc: Global, _version: Version, table: &Table) -> Result<AnonRow, AllocError> {
         Ok(AnonRow {
             from: prefix_at(alloc, Key::From, table)?,
             to: address_at(alloc, Key::To, table)?,
@@ -125,33 +131,38 @@ impl FromTable for AnonRow {
     }
 }
 
-fn anon_table(alloc: Global, table: &Table) -> Result<AnonTable, AllocError>
+fn anon_table(alloc: Global, version: Version, table: &Table) -> Result<AnonTable, AllocError>
     ensures { IfOk result (λ made. made ≡ anon_table_of (table_view table.now)) }
 {
     Ok(AnonTable {
-        fields: tables_at(alloc, Key::Field, table)?,
+        fields: tables_at(alloc, version, Key::Field, table)?,
         cut4: octet_of(&CUT4, table),
         cut6: octet_of(&CUT6, table),
-        rows: tables_at(alloc, Key::Row, table)?,
+        rows: tables_at(alloc, version, Key::Row, table)?,
     })
 }
 
-fn filter_table(alloc: Global, table: &Table) -> Result<FilterTable, AllocError>
-    ensures { IfOk result (λ made. made ≡ filter_table_of (table_view table.now)) }
+fn filter_table(alloc: Global, version: Version, table: &Table) -> Result<FilterTable, AllocError>
+    ensures { IfOk result (λ made. made ≡ filter_table_of version (table_view table.now)) }
 {
     Ok(FilterTable {
-        rules: tables_at(alloc, Key::Rule, table)?,
+        rules: tables_at(alloc, version, Key::Rule, table)?,
         default_keep: keeps(&DEFAULT_ACT, table),
     })
 }
 
 /// What an intermediate of this kind does.
-fn work_in(alloc: Global, kind: TableKind, table: &Table) -> Result<StageWork, AllocError>
-    ensures { IfOk result (λ made. made ≡ work_in kind (table_view table.now)) }
+fn work_in(
+    alloc: Global,
+    version: Version,
+    kind: TableKind,
+    table: &Table,
+) -> Result<StageWork, AllocError>
+    ensures { IfOk result (λ made. made ≡ work_in version kind (table_view table.now)) }
 {
     match kind {
-        TableKind::Anonymise => Ok(StageWork::Anonymise(anon_table(alloc, table)?)),
-        _ => Ok(StageWork::Filter(filter_table(alloc, table)?)),
+        TableKind::Anonymise => Ok(StageWork::Anonymise(anon_table(alloc, version, table)?)),
+        _ => Ok(StageWork::Filter(filter_table(alloc, version, table)?)),
     }
 }
 
@@ -159,10 +170,15 @@ impl FromTable for StageConf {
     ghost value = { stage_of };
 
     #[tactic(auto, unfolding(config_spec::specs::Values::stage_of))]
-    fn from_table(alloc: Global, table: &Table) -> Result<StageConf, AllocError> {
+    fn from_table(alloc: Global, version: Version, table: &Table) -> Result<StageConf, AllocError> {
         Ok(StageConf {
             name: Text::from_str(alloc, text_at(Key::Name, table))?,
-            work: work_in(alloc, kind_at(TableSort::Intermediate, table), table)?,
+            work: work_in(
+                alloc,
+                version,
+                kind_at(version, TableSort::Intermediate, table),
+                table,
+            )?,
         })
     }
 }
@@ -188,10 +204,10 @@ fn place_in<'a>(kind: TableKind, table: &'a Table) -> &'a str
 
 /// Where an input's events come from.
 #[tactic(auto, unfolding(config_spec::specs::Values::spec_of))]
-fn spec_of(alloc: Global, table: &Table) -> Result<InputSpec, AllocError>
-    ensures { IfOk result (λ made. made ≡ spec_of (table_view table.now)) }
+fn spec_of(alloc: Global, version: Version, table: &Table) -> Result<InputSpec, AllocError>
+    ensures { IfOk result (λ made. made ≡ spec_of version (table_view table.now)) }
 {
-    let kind = kind_at(TableSort::Input, table);
+    let kind = kind_at(version, TableSort::Input, table);
     Ok(InputSpec {
         name: Text::from_str(alloc, text_at(Key::Name, table))?,
         transport: transport_in(kind),
@@ -203,9 +219,9 @@ impl FromTable for InputConf {
     ghost value = { input_of };
 
     #[tactic(auto, unfolding(config_spec::specs::Values::input_of))]
-    fn from_table(alloc: Global, table: &Table) -> Result<InputConf, AllocError> {
+    fn from_table(alloc: Global, version: Version, table: &Table) -> Result<InputConf, AllocError> {
         Ok(InputConf {
-            spec: spec_of(alloc, table)?,
+            spec: spec_of(alloc, version, table)?,
             stop_after: number_of(&STOP_AFTER, table),
             life: Lifetimes {
                 template: long_of(&TEMPLATE_LIFETIME, table),
@@ -236,11 +252,15 @@ impl FromTable for OutputConf {
     ghost value = { output_of };
 
     #[tactic(auto, unfolding(config_spec::specs::Values::output_of))]
-    fn from_table(alloc: Global, table: &Table) -> Result<OutputConf, AllocError> {
+    fn from_table(
+        alloc: Global,
+        version: Version,
+        table: &Table,
+    ) -> Result<OutputConf, AllocError> {
         Ok(OutputConf {
             name: Text::from_str(alloc, text_at(Key::Name, table))?,
             path: Text::from_str(alloc, text_at(Key::Path, table))?,
-            kind: output_in(kind_at(TableSort::Output, table), table),
+            kind: output_in(kind_at(version, TableSort::Output, table), table),
             domains: domains_of(alloc, table)?,
         })
     }
@@ -255,18 +275,18 @@ fn order_log(alloc: Global, table: &Table) -> Result<Option<Text>, AllocError>
     }
 }
 
-/// The description of a top table.
-#[tactic(auto, unfolding(config_spec::specs::Values::conf_of))]
-pub fn conf_of(alloc: Global, table: &Table) -> Result<Conf, AllocError>
-    ensures { IfOk result (λ made. made ≡ conf_of (table_view table.now)) }
+/// The description of a top table of a version.
+#[tactic(auto, unfolding(config_spec::specs::Values::conf_in))]
+pub fn conf_in(alloc: Global, version: Version, table: &Table) -> Result<Conf, AllocError>
+    ensures { IfOk result (λ made. made ≡ conf_in version (table_view table.now)) }
 {
     Ok(Conf {
         ring: short_of(&RING, table),
         slots: long_of(&SLOTS, table),
         order_log: order_log(alloc, table)?,
         elements: texts_at(alloc, Key::Elements, table)?,
-        inputs: tables_at(alloc, Key::Input, table)?,
-        stages: tables_at(alloc, Key::Intermediate, table)?,
-        outputs: tables_at(alloc, Key::Output, table)?,
+        inputs: tables_at(alloc, version, Key::Input, table)?,
+        stages: tables_at(alloc, version, Key::Intermediate, table)?,
+        outputs: tables_at(alloc, version, Key::Output, table)?,
     })
 }

@@ -10,7 +10,9 @@ use crate::made::{FromTable, tables_at};
 use crate::tree::text_at;
 use crate::values::prefix_at;
 use col_base::{Octets, Text};
-use config_spec::{Conf, ConfFault, InputConf, Key, Listed, Marked, OutputConf, Prefix, StageConf};
+use config_spec::{
+    Conf, ConfFault, InputConf, Key, Listed, Marked, OutputConf, Prefix, StageConf, Version,
+};
 use std::alloc::{AllocError, Global};
 use std::collections::BTreeSet;
 use toml::{Table, Value};
@@ -152,10 +154,10 @@ fn mark_of(alloc: Global, prefix: &Prefix) -> Result<Octets, AllocError>
 }
 
 impl FromTable for Marked {
-    ghost value = { prefix_in };
+    ghost value = { λ version. prefix_in };
 
     #[tactic(auto, unfolding(config_spec::specs::Repeats::prefix_in))]
-    fn from_table(alloc: Global, table: &Table) -> Result<Marked, AllocError> {
+    fn from_table(alloc: Global, _version: Version, table: &Table) -> Result<Marked, AllocError> {
         let prefix = prefix_at(alloc, Key::From, table)?;
         Ok(Marked {
             text: Text::from_str(alloc, text_at(Key::From, table))?,
@@ -166,22 +168,22 @@ impl FromTable for Marked {
 
 /// Refuses an anonymiser that has a prefix twice.
 #[tactic(auto, unfolding(config_spec::specs::Repeats::prefix_fault))]
-fn prefixes_in_differ(alloc: Global, table: &Table) -> Result<(), ConfFault>
+fn prefixes_in_differ(alloc: Global, version: Version, table: &Table) -> Result<(), ConfFault>
     ensures ok { OnOk result (prefix_fault (table_view table.now) ≡ None) }
     ensures err { IfErr result (λ fault. ¬ (IsMemory fault) → prefix_fault (table_view table.now) ≡ Some fault) }
 {
-    let prefixes: Listed<Marked> = tables_at(alloc, Key::Row, table)?;
+    let prefixes: Listed<Marked> = tables_at(alloc, version, Key::Row, table)?;
     differ(alloc, prefixes.as_slice())
 }
 
 /// Refuses the first of these intermediates that has a prefix twice.
-pub fn prefixes_differ(alloc: Global, items: &[Value]) -> Result<(), ConfFault>
+pub fn prefixes_differ(alloc: Global, version: Version, items: &[Value]) -> Result<(), ConfFault>
     ensures ok { OnOk result (prefixes_fault (map view items.now) ≡ None) }
     ensures err { IfErr result (λ fault. ¬ (IsMemory fault) → prefixes_fault (map view items.now) ≡ Some fault) }
 {
     for item in items {
         if let Some(table) = item.as_table() {
-            prefixes_in_differ(alloc, table)?;
+            prefixes_in_differ(alloc, version, table)?;
         }
     }
     Ok(())

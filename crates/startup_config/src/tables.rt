@@ -7,7 +7,7 @@ ghost use Rattle.config_spec.specs.declared.key.TableSort.{TableSort};
 ghost use Rattle.config_spec.specs.declared.fault.ConfFault.{ConfFault};
 ghost use Rattle.config_spec.specs.First.{IsMemory};
 ghost use Rattle.config_spec.specs.Keys.{word_of, kinds_of};
-ghost use Rattle.config_spec.specs.Faults.{below, strange, kind_named, kind_of, table_fault, items_fault, array_fault, arrays_fault, whole_fault};
+ghost use Rattle.config_spec.specs.Faults.{below, strange, kind_named, kind_of, table_fault, items_fault, array_fault, arrays_fault, nested_fault, whole_fault};
 
 use crate::rows::rows_of;
 use crate::tree::{items_at, value_at};
@@ -48,17 +48,18 @@ fn strange(sort: TableSort, at: Text) -> ConfFault
 #[tactic(auto, unfolding(config_spec::specs::Faults::kind_of))]
 fn kind_of(
     alloc: Global,
+    version: Version,
     sort: TableSort,
     path: &str,
     table: &Table,
 ) -> Result<TableKind, ConfFault>
-    ensures ok { IfOk result (λ kind. kind_of sort path.now (table_view table.now) ≡ Ok kind) }
-    ensures err { IfErr result (λ fault. ¬ (IsMemory fault) → kind_of sort path.now (table_view table.now) ≡ Err fault) }
+    ensures ok { IfOk result (λ kind. kind_of version sort path.now (table_view table.now) ≡ Ok kind) }
+    ensures err { IfErr result (λ fault. ¬ (IsMemory fault) → kind_of version sort path.now (table_view table.now) ≡ Err fault) }
 {
     match choice_of(sort) {
         Choice::By(key) => match value_at(key, table) {
             Some(value) => match value.as_str() {
-                Some(word) => match kind_named(kinds_of(sort), word) {
+                Some(word) => match kind_named(kinds_of(version, sort), word) {
                     Some(kind) => Ok(kind),
                     None => Err(strange(sort, path_of(alloc, path, word_of(key))?)),
                 },
@@ -171,12 +172,42 @@ impl Check for Own {
         path: &str,
         table: &Table,
     ) -> Result<(), ConfFault> {
-        let kind = kind_of(alloc, sort, path, table)?;
+        let kind = kind_of(alloc, self.version, sort, path, table)?;
         own_fits(alloc, path, table, rows_of(self.version, kind))
     }
 }
 
-/// Refuses a table with a fault of its own or of a table in it.
+/// Refuses a table with a fault of its own, or with a table in it that the inner check refuses.
+#[derive(Clone, Copy)]
+struct Nested<C> {
+    version: Version,
+    inner: C,
+}
+
+impl<C: Check> Check for Nested<C> {
+    ghost fault = { λ nested. nested_fault (C.fault nested.inner) nested.version };
+
+    #[tactic(auto, unfolding(config_spec::specs::Faults::table_fault))]
+    fn refuse(
+        &self,
+        alloc: Global,
+        sort: TableSort,
+        path: &str,
+        table: &Table,
+    ) -> Result<(), ConfFault> {
+        let kind = kind_of(alloc, self.version, sort, path, table)?;
+        own_fits(alloc, path, table, rows_of(self.version, kind))?;
+        arrays_fit(
+            alloc,
+            &self.inner,
+            path,
+            children_of(self.version, kind),
+            table,
+        )
+    }
+}
+
+/// Refuses a table in an array of the top table with a fault of its own or of a table in it.
 #[derive(Clone, Copy)]
 pub struct Whole {
     pub version: Version,
@@ -185,7 +216,7 @@ pub struct Whole {
 impl Check for Whole {
     ghost fault = { λ whole. whole_fault whole.version };
 
-    #[tactic(auto, unfolding(config_spec::specs::Faults::whole_fault, config_spec::specs::Faults::table_fault))]
+    #[tactic(auto, unfolding(config_spec::specs::Faults::whole_fault))]
     fn refuse(
         &self,
         alloc: Global,
@@ -193,11 +224,15 @@ impl Check for Whole {
         path: &str,
         table: &Table,
     ) -> Result<(), ConfFault> {
-        let kind = kind_of(alloc, sort, path, table)?;
-        own_fits(alloc, path, table, rows_of(self.version, kind))?;
-        let own = Own {
-            version: self.version,
-        };
-        arrays_fit(alloc, &own, path, children_of(kind), table)
+        let version = self.version;
+        match version {
+            Version::One => {
+                let tables = Nested {
+                    version,
+                    inner: Own { version },
+                };
+                tables.refuse(alloc, sort, path, table)
+            }
+        }
     }
 }

@@ -12,7 +12,7 @@ use crate::tree::{text_at, text_found, value_at};
 use crate::words::{choice_of, kinds_of};
 use col_base::Octets;
 use config_spec::{
-    Choice, DomainSet, Key, KeyRow, Need, Prefix, Ranges, Shape, TableKind, TableSort,
+    Choice, DomainSet, Key, KeyRow, Need, Prefix, Ranges, Shape, TableKind, TableSort, Version,
 };
 use std::alloc::{AllocError, Global};
 use toml::Table;
@@ -180,11 +180,11 @@ pub fn domains_of(alloc: Global, table: &Table) -> Result<DomainSet, AllocError>
 
 /// The kind of a table that has one.
 #[tactic(auto, unfolding(config_spec::specs::Values::kind_at))]
-pub fn kind_at(sort: TableSort, table: &Table) -> TableKind
-    ensures { result ≡ kind_at sort (table_view table.now) }
+pub fn kind_at(version: Version, sort: TableSort, table: &Table) -> TableKind
+    ensures { result ≡ kind_at version sort (table_view table.now) }
 {
     match choice_of(sort) {
-        Choice::By(key) => match kind_named(kinds_of(sort), text_at(key, table)) {
+        Choice::By(key) => match kind_named(kinds_of(version, sort), text_at(key, table)) {
             Some(kind) => kind,
             None => TableKind::Top,
         },

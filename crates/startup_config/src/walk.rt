@@ -4,7 +4,7 @@ ghost use Rattle.toml.specs.View.{table_view};
 ghost use Rattle.config_spec.specs.First.{IsMemory};
 ghost use Rattle.config_spec.specs.Faults.{key_fault, keys_fault, is_known, unknown_fault, own_fault};
 
-use crate::fits::fits;
+use crate::fits::{default_fits, fits};
 use crate::tree::value_at;
 use crate::words::word_of;
 use col_base::Text;
@@ -27,22 +27,20 @@ fn key_fits(alloc: Global, path: &str, table: &Table, row: &KeyRow) -> Result<()
     ensures ok { OnOk result (key_fault path.now (table_view table.now) row.now ≡ None) }
     ensures err { IfErr result (λ fault. ¬ (IsMemory fault) → key_fault path.now (table_view table.now) row.now ≡ Some fault) }
 {
-    match value_at(row.key, table) {
-        Some(value) => match fits(alloc, row.shape, table, value)? {
-            Verdict::Right => Ok(()),
-            Verdict::WrongType => Err(ConfFault::WrongType(path_of(
-                alloc,
-                path,
-                word_of(row.key),
-            )?)),
-            Verdict::OutOfRange => {
-                Err(ConfFault::OutOfRange(path_of(alloc, path, word_of(row.key))?))
-            }
-        },
+    let verdict = match value_at(row.key, table) {
+        Some(value) => fits(alloc, row.shape, table, value)?,
         None => match row.need {
-            Need::Required => Err(ConfFault::Missing(path_of(alloc, path, word_of(row.key))?)),
-            Need::Optional | Need::Number(_) | Need::Flag(_) => Ok(()),
+            Need::Required => {
+                return Err(ConfFault::Missing(path_of(alloc, path, word_of(row.key))?));
+            }
+            Need::Optional | Need::Flag(_) => Verdict::Right,
+            Need::Number(default) => default_fits(row.shape, table, default),
         },
+    };
+    match verdict {
+        Verdict::Right => Ok(()),
+        Verdict::WrongType => Err(ConfFault::WrongType(path_of(alloc, path, word_of(row.key))?)),
+        Verdict::OutOfRange => Err(ConfFault::OutOfRange(path_of(alloc, path, word_of(row.key))?)),
     }
 }
 

@@ -2,8 +2,9 @@
 ghost use Rattle.std.specs.Prelude.{◌≡◌, [], Some, None, OnOk, IfErr, map};
 ghost use Rattle.toml.specs.View.{view, table_view};
 ghost use Rattle.config_spec.specs.First.{IsMemory};
-ghost use Rattle.config_spec.specs.Faults.{is_one_table, top_kind, tables_fault};
+ghost use Rattle.config_spec.specs.Faults.{is_one_table, top_kind, version_of, tables_fault};
 
+use crate::fits::least_at;
 use crate::rows::rows_of;
 use crate::tables::{Whole, arrays_fit};
 use crate::tree::items_at;
@@ -34,16 +35,30 @@ fn top_kind(table: &Table) -> TableKind
     }
 }
 
+/// The versions, from 1 on.
+const VERSIONS: [Version; 1] = [Version::One];
+
+/// The version that a top table names; where it names none, which is a fault, the first.
+#[tactic(auto, using(config_spec::proofs::FirstLemmas::same_version))]
+pub fn version_of(table: &Table) -> Version
+    ensures { result ≡ version_of (table_view table.now) }
+{
+    let place = least_at(Key::Version, table).saturating_sub(1) as usize;
+    match VERSIONS.get(place) {
+        Some(version) => *version,
+        None => Version::One,
+    }
+}
+
 /// Refuses a description with a fault in its tables.
 #[tactic(auto, unfolding(config_spec::specs::Faults::tables_fault))]
 pub fn tables_fit(alloc: Global, table: &Table) -> Result<(), ConfFault>
     ensures ok { OnOk result (tables_fault (table_view table.now) ≡ None) }
     ensures err { IfErr result (λ fault. ¬ (IsMemory fault) → tables_fault (table_view table.now) ≡ Some fault) }
 {
+    let version = version_of(table);
     let kind = top_kind(table);
-    own_fits(alloc, "", table, rows_of(Version::One, kind))?;
-    let whole = Whole {
-        version: Version::One,
-    };
-    arrays_fit(alloc, &whole, "", children_of(kind), table)
+    own_fits(alloc, "", table, rows_of(version, kind))?;
+    let whole = Whole { version };
+    arrays_fit(alloc, &whole, "", children_of(version, kind), table)
 }

@@ -2,7 +2,7 @@
 ghost use Rattle.std.specs.Prelude.{◌≡◌};
 ghost use Rattle.config_spec.specs.Keys.{word_of, kind_word, choice_of, kinds_of, children_of};
 
-use config_spec::{Choice, Key, TableKind, TableSort};
+use config_spec::{Choice, Key, TableKind, TableSort, Version};
 
 /// The key as it is written.
 #[tactic(auto, unfolding(config_spec::specs::Keys::word_of))]
@@ -100,15 +100,17 @@ const NO_KINDS: [TableKind; 0] = [];
 
 /// The kinds that a word chooses from.
 #[tactic(auto, unfolding(config_spec::specs::Keys::kinds_of))]
-pub fn kinds_of(sort: TableSort) -> &'static [TableKind]
-    ensures { result.now ≡ kinds_of sort }
+pub fn kinds_of(version: Version, sort: TableSort) -> &'static [TableKind]
+    ensures { result.now ≡ kinds_of version sort }
 {
-    match sort {
-        TableSort::Input => &INPUT_KINDS,
-        TableSort::Intermediate => &STAGE_KINDS,
-        TableSort::Output => &OUTPUT_KINDS,
-        TableSort::Rule => &RULE_KINDS,
-        TableSort::Field | TableSort::Row => &NO_KINDS,
+    match version {
+        Version::One => match sort {
+            TableSort::Input => &INPUT_KINDS,
+            TableSort::Intermediate => &STAGE_KINDS,
+            TableSort::Output => &OUTPUT_KINDS,
+            TableSort::Rule => &RULE_KINDS,
+            TableSort::Field | TableSort::Row => &NO_KINDS,
+        },
     }
 }
 
@@ -129,13 +131,15 @@ const NO_TABLES: [(Key, TableSort); 0] = [];
 
 /// The arrays of tables in a table of a kind, in their order.
 #[tactic(auto, unfolding(config_spec::specs::Keys::children_of))]
-pub fn children_of(kind: TableKind) -> &'static [(Key, TableSort)]
-    ensures { result.now ≡ children_of kind }
+pub fn children_of(version: Version, kind: TableKind) -> &'static [(Key, TableSort)]
+    ensures { result.now ≡ children_of version kind }
 {
-    match kind {
-        TableKind::Top | TableKind::SingleTop => &TOP_TABLES,
-        TableKind::Filter => &FILTER_TABLES,
-        TableKind::Anonymise => &ANONYMISER_TABLES,
-        _ => &NO_TABLES,
+    match version {
+        Version::One => match kind {
+            TableKind::Top | TableKind::SingleTop => &TOP_TABLES,
+            TableKind::Filter => &FILTER_TABLES,
+            TableKind::Anonymise => &ANONYMISER_TABLES,
+            _ => &NO_TABLES,
+        },
     }
 }

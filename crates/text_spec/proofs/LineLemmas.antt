@@ -7,8 +7,8 @@ use Rattle.wire_spec.specs.declared.field.FieldSpec.{FieldSpec}
 use Rattle.text_spec.specs.declared.element.Element.{Element}
 use Rattle.text_spec.specs.Marks.{line_end}
 use Rattle.text_spec.specs.Fields.{Pair, pair_of, is_of, is_pair, is_padding, different, printed_pairs, values_at, are_single}
-use Rattle.text_spec.specs.Json.{json_line, line_start, single_text, member_text, values_text, text_at, member_name}
-use Rattle.text_spec.specs.Laws.{SinglesOneByOne}
+use Rattle.text_spec.specs.Json.{Writer, json_line, line_start, single_by, member_by, values_text, text_at, member_name}
+use Rattle.text_spec.specs.Laws.{SinglesOneByOne, AllOneByOne}
 use Rattle.text_spec.proofs.DifferentLemmas.{is_pair-refl, is_pair-symm, kept_still}
 
 not-true : (b : Bool) → not b ≡ true → b ≡ false
@@ -72,35 +72,39 @@ other_value : (pair : Pair) (field : FieldSpec) (value : List ℕ) (items : List
 other_value pair field value items e =
     ap (λ b. map (λ item. item.1) (cond b ((field, value) ∷ filter (λ item. is_of pair item.0) items) (filter (λ item. is_of pair item.0) items))) (is_pair-symm pair (pair_of field) ∙ e)
 
-own_member : (table : List Element) (field : FieldSpec) (value : List ℕ) (items : List (FieldSpec × List ℕ))
+own_member : (write : Writer) (table : List Element) (field : FieldSpec) (value : List ℕ) (items : List (FieldSpec × List ℕ))
     → values_at (pair_of field) ((field, value) ∷ items) ≡ value ∷ []
-    → member_text table ((field, value) ∷ items) (pair_of field) ≡ single_text table (field, value)
-own_member table field value items own = ap (λ values. member_name table (pair_of field) ++ values_text (text_at table (pair_of field)) values) own
+    → member_by write table ((field, value) ∷ items) (pair_of field) ≡ single_by write table (field, value)
+own_member write table field value items own = ap (λ values. member_name table (pair_of field) ++ values_text (write (pair_of field)) values) own
 
-others_same : (table : List Element) (field : FieldSpec) (value : List ℕ) (fields : List FieldSpec) (items : List (FieldSpec × List ℕ))
+others_same : (write : Writer) (table : List Element) (field : FieldSpec) (value : List ℕ) (fields : List FieldSpec) (items : List (FieldSpec × List ℕ))
     → list_any (is_of (pair_of field)) fields ≡ false
-    → flat_map (member_text table ((field, value) ∷ items)) (printed_pairs fields) ≡ flat_map (member_text table items) (printed_pairs fields)
-others_same table field value fields items none =
-    flat_map_same (member_text table ((field, value) ∷ items)) (member_text table items) (printed_pairs fields)
-    (all_mapped (λ p. is_pair (pair_of field) p ≡ false) (λ p. member_text table ((field, value) ∷ items) p ≡ member_text table items p)
-    (λ p e. ap (λ values. member_name table p ++ values_text (text_at table p) values) (other_value p field value items e))
+    → flat_map (member_by write table ((field, value) ∷ items)) (printed_pairs fields) ≡ flat_map (member_by write table items) (printed_pairs fields)
+others_same write table field value fields items none =
+    flat_map_same (member_by write table ((field, value) ∷ items)) (member_by write table items) (printed_pairs fields)
+    (all_mapped (λ p. is_pair (pair_of field) p ≡ false) (λ p. member_by write table ((field, value) ∷ items) p ≡ member_by write table items p)
+    (λ p e. ap (λ values. member_name table p ++ values_text (write p) values) (other_value p field value items e))
     (printed_pairs fields)
     (kept_still (λ p. is_pair (pair_of field) p ≡ false) (λ p. not (is_padding p)) (different fields) (apart field fields none)))
 
-members : (table : List Element) (fields : List FieldSpec) (values : List (List ℕ)) → are_single fields ≡ true → length values ≡ length fields
-    → flat_map (member_text table (zip fields values)) (printed_pairs fields) ≡ flat_map (single_text table) (zip fields values)
-members table [] values single same = refl
-members table (field ∷ fields) [] single same = absurd (omega arith)
-members table (field ∷ fields) (value ∷ values) single same =
+members : (write : Writer) (table : List Element) (fields : List FieldSpec) (values : List (List ℕ)) → are_single fields ≡ true → length values ≡ length fields
+    → flat_map (member_by write table (zip fields values)) (printed_pairs fields) ≡ flat_map (single_by write table) (zip fields values)
+members write table [] values single same = refl
+members write table (field ∷ fields) [] single same = absurd (omega arith)
+members write table (field ∷ fields) (value ∷ values) single same =
     let parts = and_parts (not (is_padding (pair_of field)) && not (list_any (is_of (pair_of field)) fields)) (are_single fields) single in
     let firsts = and_parts (not (is_padding (pair_of field))) (not (list_any (is_of (pair_of field)) fields)) parts.0 in
     let plain = not-true (is_padding (pair_of field)) firsts.0 in
     let none = not-true (list_any (is_of (pair_of field)) fields) firsts.1 in
     let items : List (FieldSpec × List ℕ) = zip fields values in
-    let here = own_member table field value items (own_value field value items (is_pair-refl (pair_of field)) (no_values field fields values none)) in
-    let later = others_same table field value fields items none ∙ members table fields values parts.1 (omega arith) in
-    ap (flat_map (member_text table ((field, value) ∷ items))) (printed_first field fields plain none) ∙ ap₂ (λ a b. a ++ b) here later
+    let here = own_member write table field value items (own_value field value items (is_pair-refl (pair_of field)) (no_values field fields values none)) in
+    let later = others_same write table field value fields items none ∙ members write table fields values parts.1 (omega arith) in
+    ap (flat_map (member_by write table ((field, value) ∷ items))) (printed_first field fields plain none) ∙ ap₂ (λ a b. a ++ b) here later
 
+pub all_one_by_one : AllOneByOne
+all_one_by_one write table kind fields values single same = ap (λ text. line_start kind ++ text ++ line_end) (members write table fields values single same)
+
+-- the line of a record whose values are written by the types of their elements
 pub singles_one_by_one : SinglesOneByOne
 unfolding json_line
-singles_one_by_one table kind fields values single same = ap (λ text. line_start kind ++ text ++ line_end) (members table fields values single same)
+singles_one_by_one table kind fields values single same = all_one_by_one (text_at table) table kind fields values single same

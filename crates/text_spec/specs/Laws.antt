@@ -7,7 +7,7 @@ use Rattle.text_spec.specs.declared.element.Element.{Element}
 use Rattle.text_spec.specs.Marks.{line_end}
 use Rattle.text_spec.specs.Value.{before_end_zeros}
 use Rattle.text_spec.specs.Fields.{Pair, pair_of, is_of, is_pair, different, are_single}
-use Rattle.text_spec.specs.Json.{json_line, line_start, single_text}
+use Rattle.text_spec.specs.Json.{Writer, json_line, line_by, line_start, single_text, single_by}
 
 -- the different elements are those of the fields
 abbrev pub DifferentOccur : Type 0
@@ -27,6 +27,12 @@ abbrev pub SinglesOneByOne : Type 0
 SinglesOneByOne = (table : List Element) (kind : Kind) (fields : List FieldSpec) (values : List (List ℕ))
     → IsTrue (are_single fields) → length values ≡ length fields
     → json_line table kind fields values ≡ line_start kind ++ flat_map (single_text table) (zip fields values) ++ line_end
+
+-- and it is so however values are written
+abbrev pub AllOneByOne : Type 0
+AllOneByOne = (write : Writer) (table : List Element) (kind : Kind) (fields : List FieldSpec) (values : List (List ℕ))
+    → IsTrue (are_single fields) → length values ≡ length fields
+    → line_by write table kind fields values ≡ line_start kind ++ flat_map (single_by write table) (zip fields values) ++ line_end
 
 -- what is cut from the end of a text are zero octets
 abbrev pub ZerosAreCut : Type 0

@@ -1,5 +1,5 @@
 // What the definitions of records say, in other words. The functions do nothing: each contract states a law.
-ghost use Rattle.text_spec.specs.Laws.{DifferentOccur, DifferentDiffer, DifferentGrow, SinglesOneByOne, ZerosAreCut, OthersStay};
+ghost use Rattle.text_spec.specs.Laws.{DifferentOccur, DifferentDiffer, DifferentGrow, SinglesOneByOne, AllOneByOne, ZerosAreCut, OthersStay};
 
 #[tactic(auto, using(crate::proofs::DifferentLemmas::different_occur))]
 pub fn the_different_elements_are_those_of_the_fields()
@@ -16,9 +16,10 @@ pub fn a_new_element_comes_last()
     ensures { DifferentGrow }
 {}
 
-#[tactic(auto, using(crate::proofs::LineLemmas::singles_one_by_one))]
+#[tactic(auto, using(crate::proofs::LineLemmas::singles_one_by_one, crate::proofs::LineLemmas::all_one_by_one))]
 pub fn single_fields_are_printed_one_by_one()
-    ensures { SinglesOneByOne }
+    ensures typed { SinglesOneByOne }
+    ensures written { AllOneByOne }
 {}
 
 #[tactic(auto, using(crate::proofs::StringLemmas::zeros_are_cut))]

@@ -1,6 +1,6 @@
 use Rattle.std.proofs.Common.{◌≡◌, ◌++◌, List, ℕ, true, drop}
 use Rattle.std.specs.Prelude.{flat_map}
-use Rattle.run_spec.specs.Decode.{DecodedSet}
+use Rattle.run_spec.specs.Outcome.{DecodedSet}
 use Rattle.run_spec.specs.Result.{sets_text}
 use Rattle.site_io.specs.Writes.{Grows}
 use Rattle.text_spec.specs.Builtin.{builtin_rows}

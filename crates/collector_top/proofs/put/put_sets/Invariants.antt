@@ -1,5 +1,5 @@
 use Rattle.std.proofs.Common.{◌≡◌, ◌++◌, List, true, drop}
-use Rattle.run_spec.specs.Decode.{DecodedSet}
+use Rattle.run_spec.specs.Outcome.{DecodedSet}
 use Rattle.run_spec.specs.Result.{sets_text}
 use Rattle.text_spec.specs.Builtin.{builtin_rows}
 use Rattle.collector_top.specs.Session.{ArePlanned}

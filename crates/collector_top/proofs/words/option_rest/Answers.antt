@@ -1,5 +1,5 @@
 use Rattle.collector_top.proofs.WordLemmas.{rest_stripped}
-use Rattle.collector_top.specs.Words.{option_start}
+use Rattle.words_spec.specs.Names.{option_start}
 use Rattle.collector_top.proofs.words.option_rest.Goals as goal
 
 pub returns : goal.returns

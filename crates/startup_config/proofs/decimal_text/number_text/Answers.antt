@@ -2,7 +2,7 @@ use Rattle.std.proofs.Common.{◌≡◌, sym, nat_le, true, false, arith}
 use Rattle.std.proofs.lemmas.Bool.Decides.{nat_tests}
 use Rattle.config_spec.specs.Texts.{are_digits}
 use Rattle.startup_config.proofs.NumberLemmas.{number_parsed, number_not}
-use Rattle.startup_config.proofs.number_text.number_text.Goals as goal
+use Rattle.startup_config.proofs.decimal_text.number_text.Goals as goal
 
 pub returns-then-not-are_digits-clause-value : goal.returns-then-not-are_digits-clause-value
 returns-then-not-are_digits-clause-value c = sym (number_not _ _ (grind arith))
