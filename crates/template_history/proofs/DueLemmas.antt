@@ -3,7 +3,7 @@ use Rattle.std.proofs.Common.{◌≡◌, ◌⊎◌, ℕ, zero, suc, ◌+◌, ◌
 use Rattle.std.specs.Prelude.{◌==◌, if◌then◌else◌, nat_le, max, Result, Ok, Err, OnOk, is_ok}
 use Rattle.std.specs.List.{AllByRecursion, insert}
 use Rattle.std.specs.Ordering.{nat_cmp, is_gt, ordering_then}
-use Rattle.std.proofs.lemmas.Bool.{cases_lt, le-leb, lt-leb, le-ltb, cases_eq, eq-eqb, ne_eqb, true≢false}
+use Rattle.std.proofs.lemmas.Bool.{cases_lt, le-leb, leb-true, lt-leb, le-ltb, cases_eq, eq-eqb, ne_eqb, true≢false}
 use Rattle.template_history.specs.declared.due.Due.{Due}
 use Rattle.template_history.specs.declared.version.Version.{Version}
 use Rattle.template_history.specs.Due.{is_due, pair_cmp}
@@ -186,3 +186,7 @@ one_more_from time t id old new le more others from = λ k. by k (cases_eq k id)
     by : (k : ℕ) → (k ≡ id) ⊎ (k ≡ id → ⊥) → TailIn time_of (λ u. nat_le time u) (row_of new k)
     by k (inl e) = subst (λ (j : ℕ). TailIn time_of (λ u. nat_le time u) (row_of new j)) (sym e) (more (λ u. nat_le time u) (behind (row_of old id)) (from id))
     by k (inr ne) = subst (TailIn time_of (λ u. nat_le time u)) (sym (others k ne)) (from k)
+
+pub from_weaker : (time later : ℕ) (h : List (ℕ × List Version)) → time ≤ later → AreFrom later h → AreFrom time h
+from_weaker time later h le from = λ id.
+    tail_weaker time_of (λ t. nat_le later t) (λ t. nat_le time t) (row_of h id) (λ u is. le-leb time u (let s : later ≤ u = leb-true later u is in omega (arith, le, s))) (from id)
