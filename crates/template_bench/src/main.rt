@@ -115,7 +115,7 @@ fn prepare(
 ) -> Result<Manager, WantOfMemory> {
     let mut manager = Manager::new(alloc, work.transport(), lasting(1_000_000_000));
     for export in 100..102 {
-        for id in FIRST..FIRST + work.templates() {
+        for id in FIRST..FIRST.saturating_add(work.templates()) {
             define(&mut manager, export, id, definition)?;
         }
     }

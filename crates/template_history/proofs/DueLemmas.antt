@@ -120,9 +120,10 @@ one_forgotten before id whole old new due left is stay kept so_far = (λ k. both
     Both k row = Ascends time_of row × TailIn time_of (λ t. is_due left t k) row
 
     both : (k : ℕ) → (k ≡ id) ⊎ (k ≡ id → ⊥) → Both k (row_of new k)
-    both k (inl e) = subst (Both k) (sym (here k e))
-        (ascends_kept time_of before (row_of old k) (kept k).0,
-         tail_kept time_of before (λ t. is_due due t k) (λ t. is_due left t k) (row_of old k) (λ u d lt. stay u k d (λ le same. omega (arith, lt, le))) (kept k).0 (kept k).1)
+    both k (inl e) = subst (Both k) (sym (here k e)) (
+      ascends_kept time_of before (row_of old k) (kept k).0,
+      tail_kept time_of before (λ t. is_due due t k) (λ t. is_due left t k) (row_of old k) (λ u d lt. stay u k d (λ le same. omega (arith, lt, le))) (kept k).0 (kept k).1,
+    )
     both k (inr ne) = subst (Both k) (sym (apart k ne))
         ((kept k).0, tail_weaker time_of (λ t. is_due due t k) (λ t. is_due left t k) (row_of old k) (λ u d. stay u k d (λ le same. ne same)) (kept k).1)
 

@@ -1,5 +1,5 @@
 -- The rows of a table: their order, what they give, and that few lie behind.
-use Rattle.std.proofs.Common.{◌≡◌, ◌⊎◌, ℕ, zero, suc, ◌+◌, ◌-◌, ◌<◌, ◌≤◌, inl, inr, Bool, true, false, cond, List, [], ◌∷◌, ◌++◌, map, refl, ap, sym, subst, ◌∙◌, arith}
+use Rattle.std.proofs.Common.{◌≡◌, ◌⊎◌, ℕ, ◌+◌, ◌-◌, ◌<◌, ◌≤◌, inl, inr, Bool, true, false, cond, List, [], ◌∷◌, ◌++◌, map, refl, ap, sym, subst, ◌∙◌, arith}
 use Rattle.std.specs.Prelude.{◌==◌, ◌&&◌, nat_le, if◌then◌else◌, Option, Some, None, option_map, unwrap_or, Result, Ok, Err, IfOk}
 use Rattle.std.specs.Option.{option_or}
 use Rattle.std.specs.List.{AllByRecursion}
@@ -18,6 +18,7 @@ use Rattle.template_history.specs.Row.{if_by, row_at, Ascends, TailIn}
 use Rattle.template_history.specs.Versions.{row_of, seen, version_at, AreFrom}
 use Rattle.template_snapshot.specs.Entry.{AreInOrder, Entry, Precedes}
 use Rattle.template_snapshot.specs.Frozen.{frozen_at, last_serving, serves}
+use Rattle.template_history.proofs.RowLemmas.{or_assoc, or_none}
 use Rattle.template_manager.specs.Rows.{entry_of, rows_of, stream_entry, timed_rows, NoTwoBehind}
 use Rattle.template_manager.specs.Table.{definition_in}
 
@@ -131,14 +132,6 @@ rows_few {X} n d late greatest (e ∷ es) inc all = of e.1 (first_of (TailIn n (
     of (x ∷ xs) a rest = (front x xs a, all_of xs a rest)
 
 -- ---- what they give
-
-or_none : {X : Type 0} (a : Option X) → option_or a None ≡ a
-or_none None = refl
-or_none (Some x) = refl
-
-or_assoc : {X : Type 0} (a b c : Option X) → option_or (option_or a b) c ≡ option_or a (option_or b c)
-or_assoc None b c = refl
-or_assoc (Some x) b c = refl
 
 serving-append : (e id : ℕ) (xs ys : List Entry) → last_serving e id (xs ++ ys) ≡ option_or (last_serving e id ys) (last_serving e id xs)
 serving-append e id [] ys = sym (or_none (last_serving e id ys))

@@ -1,6 +1,6 @@
 -- What a manager stands for once a template record was taken, by transport.
-use Rattle.std.proofs.Common.{◌≡◌, ℕ, ◌+◌, ◌≤◌, Bool, true, false, List, [], ◌∷◌, ◌++◌, Some, None, ap, sym, subst, ◌∙◌, refl}
-use Rattle.std.specs.Prelude.{Option, Result, Ok, Err, IfOk, OnOk, option_map, nat_lt}
+use Rattle.std.proofs.Common.{◌≡◌, ℕ, ◌+◌, ◌≤◌, Bool, false, List, [], ◌∷◌, ◌++◌, None, ap, sym, subst, ◌∙◌, refl}
+use Rattle.std.specs.Prelude.{Option, Result, Ok, Err, IfOk, OnOk, option_map}
 use Rattle.std.proofs.lemmas.Bool.{ltb-false}
 use Rattle.std.proofs.lemmas.List.Sums.{fold-append}
 use Rattle.std.specs.declared.sync.Arc.{Arc}
@@ -10,7 +10,7 @@ use Rattle.col_base.specs.declared.base.Transport.{Transport}
 use Rattle.col_base.specs.declared.base.Transport.TheVariants.{Tcp, Udp, File}
 use Rattle.wire_spec.specs.Content.{Definition, Touch}
 use Rattle.wire_spec.specs.Content.Touch.{Define, Withdraw, WithdrawAll}
-use Rattle.template_spec.specs.Valid.{newer, newest, touched, while_alive}
+use Rattle.template_spec.specs.Valid.{newer, touched, while_alive}
 use Rattle.template_spec.specs.Late.{is_late}
 use Rattle.template_spec.specs.Changes.{changes, is_new_to}
 use Rattle.template_history.specs.declared.version.Version.{Version}

@@ -105,7 +105,11 @@ fn withdrawals_count_by_transport(rt: HostRuntime) -> Result<(), Fail> {
     ] {
         let mut manager = Manager::new(rt.alloc(), transport, USUAL);
         for (message, want) in messages.iter().zip(&wanted) {
-            assert_eq!(rt; hand(rt.alloc(), &mut manager, *message)?, *want, "{transport:?}");
+            assert_eq!(rt;
+                hand(rt.alloc(), &mut manager, *message)?,
+                *want,
+                "{transport:?}"
+            );
         }
     }
     Ok(())
@@ -141,7 +145,11 @@ fn definitions_serve_by_export_time(rt: HostRuntime) -> Result<(), Fail> {
     for list in lists {
         let mut manager = Manager::new(rt.alloc(), Transport::Udp, USUAL);
         for (message, want) in list {
-            assert_eq!(rt; hand(rt.alloc(), &mut manager, *message)?, *want, "{message:?}");
+            assert_eq!(rt;
+                hand(rt.alloc(), &mut manager, *message)?,
+                *want,
+                "{message:?}"
+            );
         }
     }
     Ok(())
@@ -187,9 +195,15 @@ fn a_change_retires_the_snapshot(rt: HostRuntime) -> Result<(), Fail> {
         assert_eq!(rt; manager.live(), 0);
         assert_eq!(rt; manager.next_retired(), Some(at));
         assert_eq!(rt; manager.next_retired(), None);
-        let elements = [(100, 256), (99, 256), (100, 257)]
-            .map(|(export, id)| table.get(export, id).and_then(|d| d.fields().first()).map(|f| f.id));
-        let early = if let Transport::Tcp = transport { Some(8) } else { None };
+        let elements = [(100, 256), (99, 256), (100, 257)].map(|(export, id)| table
+            .get(export, id)
+            .and_then(|d| d.fields().first())
+            .map(|f| f.id));
+        let early = if let Transport::Tcp = transport {
+            Some(8)
+        } else {
+            None
+        };
         assert_eq!(rt; elements, [Some(8), early, None]);
     }
     Ok(())

@@ -1,6 +1,6 @@
-use Rattle.std.proofs.Common.{◌≡◌, ◌∙◌, rules}
+use Rattle.std.proofs.Common.{◌∙◌}
 use Rattle.std.specs.BTreeMap.{is_at}
-use Rattle.template_history.specs.Due.{is_due, pair_cmp}
+use Rattle.template_history.specs.Due.{pair_cmp}
 use Rattle.template_history.proofs.DueLemmas.{stays_true}
 use Rattle.template_history.proofs.due.Due.enter.Goals as goal
 

@@ -1,4 +1,4 @@
-use Rattle.std.proofs.Common.{◌≡◌, ◌<◌, ◌≤◌, ◌∙◌, arith, rules}
+use Rattle.std.proofs.Common.{◌≤◌, arith, rules}
 use Rattle.template_history.proofs.DueLemmas.{pair_le}
 use Rattle.template_history.proofs.due.Due.next.Goals as goal
 

@@ -1,7 +1,7 @@
-use Rattle.std.proofs.Common.{◌≡◌, ℕ, suc, ◌+◌, ◌-◌, ◌<◌, ◌≤◌, inl, inr, ap, sym, subst, ◌∙◌, refl, arith, rules, List, length, Some, get_or, slice_index_or, drop}
+use Rattle.std.proofs.Common.{◌≡◌, suc, ◌+◌, ◌-◌, ap, sym, subst, ◌∙◌, refl, arith, drop}
 use Rattle.template_history.specs.declared.version.Version.{Version}
-use Rattle.template_history.specs.Row.{Ascends, IsCut, kept_from, row_at, put_at}
-use Rattle.template_history.proofs.RowLemmas.{cut_read, none_at, found_at, put_set, put_insert, kept_few, left_kept, kept_drop, ascends_drop}
+use Rattle.template_history.specs.Row.{Ascends, kept_from, row_at}
+use Rattle.template_history.proofs.RowLemmas.{cut_read, kept_few, left_kept, kept_drop, ascends_drop}
 use Rattle.template_history.proofs.versions.Versions.forget.Goals as goal
 use Rattle.template_history.proofs.versions.Versions.forget.Goals.{After-drop-drain, Else-count-gt1}
 

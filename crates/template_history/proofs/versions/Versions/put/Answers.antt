@@ -1,4 +1,4 @@
-use Rattle.std.proofs.Common.{◌≡◌, ℕ, ◌+◌, ◌-◌, ◌<◌, ◌≤◌, ap, sym, subst, ◌∙◌, refl, arith, rules, List, length}
+use Rattle.std.proofs.Common.{◌≡◌, ℕ, ◌<◌, ap, sym, subst, ◌∙◌, arith, List, length}
 use Rattle.template_history.specs.declared.version.Version.{Version}
 use Rattle.std.specs.Prelude.{OnOk}
 use Rattle.template_history.specs.Row.{Ascends, row_at, put_at}

@@ -1,4 +1,4 @@
-use Rattle.std.proofs.Common.{◌≡◌, ◌+◌, ◌-◌, ◌≤◌, arith}
+use Rattle.std.proofs.Common.{◌+◌, ◌-◌, arith}
 use Rattle.template_history.proofs.DueLemmas.{from_weaker}
 use Rattle.template_manager.proofs.manager.Manager.arrived.Goals as goal
 

@@ -1,7 +1,7 @@
-use Rattle.std.proofs.Common.{◌≡◌, ℕ, List, refl, subst, sym, ◌∙◌}
+use Rattle.std.proofs.Common.{◌≡◌, ℕ, refl, subst, ◌∙◌}
 use Rattle.std.specs.Prelude.{map, IfOk}
 use Rattle.col_base.specs.declared.base.Transport.{Transport}
-use Rattle.template_snapshot.specs.Entry.{AreInOrder, Entry}
+use Rattle.template_snapshot.specs.Entry.{AreInOrder}
 use Rattle.template_snapshot.specs.Frozen.{frozen_at}
 use Rattle.template_manager.specs.Rows.{stream_entry, timed_rows, NoTwoBehind}
 use Rattle.template_manager.specs.Stands.{table_at}
