@@ -15,8 +15,9 @@ use Rattle.template_spec.specs.Late.{is_late}
 use Rattle.template_spec.specs.Changes.{changes, is_new_to}
 use Rattle.template_history.specs.declared.version.Version.{Version}
 use Rattle.template_history.specs.Versions.{version_at}
-use Rattle.template_manager.specs.declared.kinds.Taken.{Taken}
-use Rattle.template_manager.specs.Kinds.{changes_by_time, taken, taken_by_time, taken_in_order, taken_of}
+use Rattle.template_spec.specs.declared.outcome.Taken.{Taken}
+use Rattle.template_manager.specs.Kinds.{changes_by_time, taken_by_time, taken_in_order}
+use Rattle.template_spec.specs.Taken.{defined_as, taken}
 use Rattle.template_manager.specs.Stands.{StandsBy, StandsFor}
 use Rattle.template_manager.specs.State.{State}
 use Rattle.template_manager.specs.Table.{definition_in}
@@ -33,7 +34,7 @@ udp_is m (Err e) time t is l p = tt
 udp_is m (Ok x) time t is l p = λ past s. p ∙ subst (λ (by : Transport). StandsBy by m past → is_late by m.life m.greatest time ≡ false → taken_by_time m.life (version_at m.timed) time t ≡ taken by m.life past (time, t)) (sym is) (λ s l. by t past s l) s l
   where
     by : (t : Touch) (past : List (ℕ × Touch)) → StandsBy Udp m past → is_late Udp m.life m.greatest time ≡ false → taken_by_time m.life (version_at m.timed) time t ≡ taken Udp m.life past (time, t)
-    by (Define id d) past s l = ap (λ o. taken_of (while_alive m.life time o) d) (s time id (not_late m.life m.greatest time l))
+    by (Define id d) past s l = ap (λ o. defined_as (while_alive m.life time o) d) (s time id (not_late m.life m.greatest time l))
     by (Withdraw id) past s l = refl
     by (WithdrawAll kind) past s l = refl
 
