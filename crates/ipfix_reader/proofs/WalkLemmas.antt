@@ -1,11 +1,11 @@
 -- What a whole walk over a message adds up to: `Says`. A loop over `template_records(set)` keeps `HaveTouched`,
 -- a loop over `message.sets()` keeps `HaveSaid`: both begin with nothing said, and go on by one step.
-use Rattle.std.proofs.Common.{◌≡◌, ℕ, ◌≤◌, inl, inr, true, false, List, [], ◌∷◌, ◌++◌, Some, None, length, map, drop, refl, ap, sym, subst, ◌∙◌, arith, length-append, length-drop}
+use Rattle.std.proofs.Common.{◌≡◌, ℕ, ◌≤◌, ◌⊎◌, inl, inr, true, false, List, [], ◌∷◌, ◌++◌, Some, None, length, map, drop, refl, ap, sym, subst, ◌∙◌, arith, length-append, length-drop}
 use Rattle.std.specs.Prelude.{Option, ◌==◌}
 use Rattle.std.specs.List.{concat}
 use Rattle.std.proofs.Props.{props}
 use Rattle.std.proofs.Math.Logic.{∥∥₁_elim}
-use Rattle.std.proofs.lemmas.Bool.{cases_Bool, not-true, not-false, ne_eqb}
+use Rattle.std.proofs.lemmas.Bool.{cases_Bool, not-true, not-false, ne_eqb, eqb-true}
 use Rattle.std.proofs.lemmas.List.{map-append, take_all}
 use Rattle.col_base.specs.declared.base.Kind.{Kind}
 use Rattle.col_base.specs.Numbers.{be16_at}
@@ -13,6 +13,7 @@ use Rattle.wire_spec.specs.Message.{IsSet, IsBody, IsTemplateRecord, kind_of, de
 use Rattle.wire_spec.specs.Places.{set_place}
 use Rattle.wire_spec.specs.Content.{Touch, Part, Says, SaysPart, SayParts, touch_of}
 use Rattle.wire_spec.specs.Content.Part.{Touches, Body}
+use Rattle.wire_spec.proofs.OptionLemmas.{some_or_none}
 use Rattle.wire_spec.proofs.RowLemmas.{items_more, concat_more}
 use Rattle.ipfix_reader.proofs.SpecifierLemmas.{right_scope}
 use Rattle.ipfix_reader.specs.declared.raw.RawSet.{RawSet}
@@ -62,6 +63,17 @@ touched_all {raw} {kind} {old} {touches} next new h g =
 -- Sets of other IDs than 2 and 3 have no template records.
 pub no_kind : (id : ℕ) → (id ≡ 2 → ⊥) → (id ≡ 3 → ⊥) → kind_of id ≡ None
 no_kind id a b = rw (ne_eqb id 2 a, ne_eqb id 3 b) refl
+
+-- Only those have template records.
+pub kind_ids : (id : ℕ) (kind : Kind) → kind_of id ≡ Some kind → (id ≡ 2) ⊎ (id ≡ 3)
+kind_ids id kind e =
+    elim (cases_Bool (id == 2)) [
+      | inl t ↦ inl (eqb-true id 2 t)
+      | inr t ↦ elim (cases_Bool (id == 3)) [
+        | inl u ↦ inr (eqb-true id 3 u)
+        | inr u ↦ absurd (let none : kind_of id ≡ None = rw (t, u) refl in some_or_none (kind_of id) kind e none)
+      ]
+    ]
 
 -- A set without template records says its body.
 pub body_said : (raw : RawSet) → kind_of raw.id ≡ None → RawSays raw (Body raw.id raw.body.now)

@@ -1,5 +1,5 @@
 -- What a set has, which its ID says (RFC 7011, section 3.3.2), and what a template record does (sections 3.4 and 8.1).
-use Rattle.std.specs.Prelude.{ℕ, ◌≡◌, ◌≢◌, ◌<◌, ◌≤◌, Some, None}
+use Rattle.std.specs.Prelude.{ℕ, ◌≡◌, ◌≢◌, ◌⊎◌, ◌<◌, ◌≤◌, Some, None}
 use Rattle.wire_spec.specs.Message.{kind_of, set_id}
 use Rattle.wire_spec.specs.Content.{Touch}
 use Rattle.wire_spec.specs.Content.Touch.{Define as SaysDefine, Withdraw as SaysWithdraw, WithdrawAll as SaysWithdrawAll}
@@ -11,9 +11,9 @@ use Rattle.ipfix_reader.specs.declared.raw.RawDefinition.{RawDefinition}
 use Rattle.ipfix_reader.specs.declared.raw.RawTouch.{RawTouch}
 use Rattle.ipfix_reader.specs.declared.raw.RawTouch.TheVariants.{Define, Withdraw, WithdrawAll}
 
--- a set of this ID has template records of the kind that it stands for, or data records from 256 on, and else neither
+-- a set of ID 2 or 3 has template records of a kind, and one of an ID from 256 on has data records; any other is reserved
 abbrev pub HasContent : ℕ → SetContent → Type 0
-HasContent id (Templates kind) = kind_of id ≡ Some kind
+HasContent id (Templates kind) = (kind_of id ≡ Some kind) × ((id ≡ 2) ⊎ (id ≡ 3))
 HasContent id (Data template) = (template ≡ id) × (256 ≤ id)
 HasContent id Reserved = (kind_of id ≡ None) × (id < 256)
 

@@ -34,6 +34,7 @@ impl RawSet<'_> {
     ghost use Rattle.ipfix_reader.specs.Cases.{HasContent};
 
     /// What the set has.
+    #[tactic(auto, using(crate::proofs::WalkLemmas::kind_ids))]
     pub fn content(&self) -> SetContent
         ensures { HasContent self.now.id result }
     {

@@ -5,7 +5,7 @@ pub returns-in_default : goal.returns-in_default
 returns-in_default c = data_unknown c.args.domains.now c.args.domain c.args.set.id c.args.set.body.now c.args.plan.now c.in_default.ensures.found
 
 pub returns-then-not-has_records : goal.returns-then-not-has_records
-returns-then-not-has_records c = data_skipped c.args.domains.now c.args.domain c.args.set.id c.args.set.body.now c.args.plan.now c.in-Some.definition.now.value c.if-set-lt-LEAST_TEMPLATE_ID.false c.in-Some.ensures.found (rw c.deref.ensures at c.if-not-has_records.ensures)
+returns-then-not-has_records c = data_skipped c.args.domains.now c.args.domain c.args.set.id c.args.set.body.now c.args.plan.now c.in-Some.definition.now.value c.requires c.in-Some.ensures.found (rw c.deref.ensures at c.if-not-has_records.ensures)
 
 pub returns : goal.returns
-returns c = data_planned c.args.domains.now c.args.domain c.args.set.id c.args.set.body.now c.args.plan.now c.plan_records.new.plan c.in-Some.definition.now.value c.if-set-lt-LEAST_TEMPLATE_ID.false c.in-Some.ensures.found (c.in_ok-plan_records.ensures c.args.set.id)
+returns c = data_planned c.args.domains.now c.args.domain c.args.set.id c.args.set.body.now c.args.plan.now c.plan_records.new.plan c.in-Some.definition.now.value c.requires c.in-Some.ensures.found (c.in_ok-plan_records.ensures c.args.set.id)
