@@ -67,7 +67,7 @@ pub set_given : (message : List ℕ) (at : ℕ) (rest set : List ℕ) (raw : Raw
 set_given message at rest set raw left first is =
     let front : take (length set) (drop at message) ≡ set = sym (first ∙ ap (take (length set)) left) in
     let joined : drop at message ≡ set ++ drop (at + length set) message =
-        sym (take-append-drop (length set) (drop at message)) ∙ (ap (λ x. x ++ drop (length set) (drop at message)) front ∙ ap (λ x. set ++ x) (drop-drop (length set) at message)) in (
+    sym (take-append-drop (length set) (drop at message)) ∙ (ap (λ x. x ++ drop (length set) (drop at message)) front ∙ ap (λ x. set ++ x) (drop-drop (length set) at message)) in (
       (set, joined, is, refl),
       (set, subst (λ (p : ℕ). IsRawSet raw p set) (sym is.at) is, ap (λ p. take (length set) (drop p message)) is.at ∙ front),
     )

@@ -8,12 +8,14 @@
 
 mod cut;
 mod field_walk;
+mod place;
 mod record_walk;
 mod size;
 mod value;
 
 pub use cut::{fields, records};
 pub use field_walk::Fields;
+pub use place::{ValuePlace, value_place};
 pub use record_walk::{NotRecords, Records};
 pub use value::FieldValue;
 

@@ -7,7 +7,7 @@ invariant_of-result-clause-definition c =
     let short = c.args.self.now.short in
     let joined = c.split_template.ensures.length in
     specifiers_kept c.args.self.now.kind c.split_template.result.0.now c.specifiers_of.result.now c.scope_of.result c.be16-2.result c.split_template.ensures.first (omega arith) c.scope_of.ensures c.be16-2.ensures
-        c.specifiers_of.ensures
+    c.specifiers_of.ensures
 
 pub invariant_of-result-clause-scoped : goal.invariant_of-result-clause-scoped
 invariant_of-result-clause-scoped c = scope_kept c.args.self.now.kind c.split_template.result.0.now c.scope_of.result c.be16-2.result c.split_template.ensures.first c.scope_of.ensures c.be16-2.ensures
