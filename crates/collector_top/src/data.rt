@@ -1,5 +1,5 @@
 // What is to be printed of a data set.
-ghost use Rattle.std.specs.Prelude.{ℕ, OnOk, MatchBool};
+ghost use Rattle.std.specs.Prelude.{ℕ, ◌≤◌, OnOk, MatchBool};
 ghost use Rattle.collector_top.specs.Session.{HasRecords, HasNoRecords, PlansRecords, PlansData};
 
 use crate::domains::Domains;
@@ -10,7 +10,6 @@ use record_iter::records;
 use std::alloc::AllocError;
 use std::sync::Arc;
 use template_def::Definition;
-use wire_spec::numbers::LEAST_TEMPLATE_ID;
 
 /// Whether a body is records of a definition, at least one.
 fn has_records(definition: &Definition, body: &[u8]) -> bool
@@ -53,11 +52,9 @@ pub fn plan_data<'a>(
     domains: &Domains,
     plan: &mut PlannedMessage<'a>,
 ) -> Result<(), AllocError>
+    requires { 256 ≤ set.id }
     ensures { OnOk result (PlansData domains.now domain set.entry.id set.entry.body.now plan.old plan.new) }
 {
-    if set.id < LEAST_TEMPLATE_ID {
-        return Ok(());
-    }
     let Some(definition) = domains.find(domain, set.id) else {
         return Ok(());
     };

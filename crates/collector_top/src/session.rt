@@ -8,9 +8,8 @@ use crate::data::plan_data;
 use crate::domains::Domains;
 use crate::planned::PlannedMessage;
 use col_base::{Octets, WantOfMemory};
-use ipfix_reader::{Message, RawSet, check};
+use ipfix_reader::{Message, RawSet, SetContent, check};
 use std::alloc::Global;
-use wire_spec::numbers::{OPTIONS_TEMPLATE_SET, TEMPLATE_SET};
 
 /// Takes a set of a message: its template records count from now on, and its data records are planned.
 fn take_set<'a>(
@@ -23,11 +22,11 @@ fn take_set<'a>(
     requires { is_kept domains.old domain ≡ true }
     ensures { OnOk result (TakesSet set.entry domain domains.old domains.new plan.old plan.new) }
 {
-    if set.id == TEMPLATE_SET || set.id == OPTIONS_TEMPLATE_SET {
-        domains.take_set(alloc, domain, set)?;
-        return Ok(());
+    match set.content() {
+        SetContent::Templates(_) => domains.take_set(alloc, domain, set)?,
+        SetContent::Data(_) => plan_data(set, domain, domains, plan)?,
+        SetContent::Reserved => {}
     }
-    plan_data(set, domain, domains, plan)?;
     Ok(())
 }
 

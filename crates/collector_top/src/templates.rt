@@ -3,18 +3,19 @@ ghost use Rattle.std.specs.Prelude.{◌≡◌, ◌⊎◌, ◌↔◌, IsTrue, ℕ
 ghost use Rattle.wire_spec.specs.Content.{Touch};
 ghost use Rattle.wire_spec.specs.Content.Touch.{Withdraw, WithdrawAll};
 ghost use Rattle.wire_spec.specs.Content.Part.{Touches};
-ghost use Rattle.wire_spec.specs.WellFormed.{HasScope, IsWellFormed};
+ghost use Rattle.wire_spec.specs.WellFormed.{IsWellFormed};
 ghost use Rattle.template_spec.specs.Valid.{same_kind, touched};
 ghost use Rattle.ipfix_reader.specs.Walk.{touch_by, RawSays};
+ghost use Rattle.ipfix_reader.specs.Cases.{touch_said};
+ghost use Rattle.ipfix_reader.specs.declared.raw.RawTouch.TheVariants.{Define};
 ghost use Rattle.collector_top.specs.TemplateTable.{AreWellDefined, well_defined_prop};
 
 use col_base::{Kind, WantOfMemory};
-use ipfix_reader::{RawSet, RawTemplate, template_records};
+use ipfix_reader::{RawDefinition, RawSet, RawTemplate, RawTouch, template_records};
 use std::alloc::Global;
 use std::collections::BTreeMap;
 use std::sync::Arc;
 use template_def::Definition;
-use wire_spec::numbers::LEAST_TEMPLATE_ID;
 
 /// The valid definitions of one domain, by template ID. Each is well formed.
 #[derive(Drop)]
@@ -61,10 +62,8 @@ impl Templates {
     }
 
     /// Takes a definition. One that is there already stays as it is.
-    fn define(&mut self, alloc: Global, raw: RawTemplate<'_>) -> Result<(), WantOfMemory>
-        requires some { raw.count ≡ 0 → ⊥ }
-        requires scope { HasScope raw.kind raw.scope }
-        ensures { OnOk result ((id : ℕ) → definition_of self.new id ≡ touched id (definition_of self.old id) (touch_by raw.entry)) }
+    fn define(&mut self, alloc: Global, raw: RawDefinition<'_>) -> Result<(), WantOfMemory>
+        ensures { OnOk result ((id : ℕ) → definition_of self.new id ≡ touched id (definition_of self.old id) (touch_said (Define raw.entry))) }
     {
         let definition = Definition::read(alloc, raw.kind, raw.scope, raw.specs)?;
         if self.has(raw.id, &definition) {
@@ -91,16 +90,12 @@ impl Templates {
 
     /// Takes what a template record does.
     fn take(&mut self, alloc: Global, raw: RawTemplate<'_>) -> Result<(), WantOfMemory>
-        requires scope { (raw.count ≡ 0 → ⊥) → HasScope raw.kind raw.scope }
         ensures { OnOk result ((id : ℕ) → definition_of self.new id ≡ touched id (definition_of self.old id) (touch_by raw.entry)) }
     {
-        if raw.count != 0 {
-            return self.define(alloc, raw);
-        }
-        if raw.id < LEAST_TEMPLATE_ID {
-            self.withdraw_all(raw.kind);
-        } else {
-            self.withdraw(raw.id);
+        match raw.touch() {
+            RawTouch::Define(definition) => self.define(alloc, definition)?,
+            RawTouch::Withdraw(id) => self.withdraw(id),
+            RawTouch::WithdrawAll(kind) => self.withdraw_all(kind),
         }
         Ok(())
     }

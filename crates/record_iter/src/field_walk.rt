@@ -26,7 +26,7 @@ fn value_in(len: u16, octets: &[u8]) -> &[u8]
 }
 
 /// The value of the first field, and what follows it.
-pub fn split_value(len: u16, octets: &[u8]) -> (&[u8], &[u8])
+fn split_value(len: u16, octets: &[u8]) -> (&[u8], &[u8])
     requires { value_size len octets.now ≡ None → ⊥ }
     ensures begins { BeginsValue len octets.now result.0.now result.1.now }
     ensures room { length result.0.now + length result.1.now ≤ length octets.now }

@@ -1,34 +1,49 @@
-// The place of a value in its record, for those who change the record.
-ghost use Rattle.std.specs.Prelude.{◌≡◌, ◌≤◌, MatchOption, None, drop, length};
+// Where the value of a field stands in its record.
+ghost use Rattle.std.specs.Prelude.{◌≡◌, ◌≤◌, None, length, drop};
 ghost use Rattle.wire_spec.specs.Size.{value_size};
-ghost use Rattle.record_iter.specs.Place.{HasValueAt};
+ghost use Rattle.wire_spec.specs.Values.{lead};
+ghost use Rattle.record_iter.specs.Place.{IsValuePlace};
 
-use crate::field_walk::split_value;
 use crate::size::{behind, value_size};
-use wire_spec::FieldSpec;
+use wire_spec::numbers::{LONG_LENGTH, LONG_LENGTH_OCTETS, VARIABLE_LENGTH};
 
-/// The place of a value: the octet of its record at which it begins, behind its length where that varies, and the number
-/// of its octets. The field ends with it.
+/// Where the value of a field stands: the octet of the record at which it begins, behind its length where that varies,
+/// and the number of its octets. The next field begins where it ends.
 #[derive(Clone, Copy, Debug, PartialEq, Eq, PartialOrd, Ord, Hash)]
 pub struct ValuePlace {
     pub at: usize,
     pub len: usize,
 }
 
-/// The place of the value of a field, whose octets begin at `from`. None exactly where they are cut. The record isn't
-/// borrowed by the answer, so the value can be written over; the next field begins at `at + len`. No memory is taken.
-pub fn value_place(field: FieldSpec, rec: &[u8], from: usize) -> Option<ValuePlace>
-    requires { from ≤ length rec.now }
-    ensures { MatchOption result (value_size field.len (drop from rec.now) ≡ None) (λ place. HasValueAt field.len from rec.now place) }
+/// The octets before the value that begins here: its length in one octet or in three, or none.
+fn lead(len: u16, octets: &[u8]) -> usize
+    requires { value_size len octets.now ≡ None → ⊥ }
+    ensures { result ≡ lead len octets.now }
 {
-    let octets = behind(rec, from);
-    if value_size(field.len, octets).is_none() {
-        return None;
+    if len != VARIABLE_LENGTH {
+        return 0;
     }
-    let (value, rest) = split_value(field.len, octets);
-    let to = from + (octets.len() - rest.len());
-    Some(ValuePlace {
-        at: to - value.len(),
-        len: value.len(),
-    })
+    if octets[0] < LONG_LENGTH {
+        1
+    } else {
+        LONG_LENGTH_OCTETS
+    }
+}
+
+/// The place of the value of a field, by the field's length and the octet of the record at which the field begins
+/// (RFC 7011, section 7). The record isn't borrowed any more, so that the value can be changed where it stands.
+pub fn value_place(len: u16, octets: &[u8], at: usize) -> ValuePlace
+    requires inside { at ≤ length octets.now }
+    requires whole { value_size len (drop at octets.now) ≡ None → ⊥ }
+    ensures { IsValuePlace len octets.now at result }
+{
+    let rest = behind(octets, at);
+    let lead = lead(len, rest);
+    match value_size(len, rest) {
+        Some(size) => ValuePlace {
+            at: at + lead,
+            len: size - lead,
+        },
+        None => ValuePlace { at, len: 0 },
+    }
 }
