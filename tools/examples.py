@@ -73,7 +73,64 @@ MESSAGES = {
         "000a0010 00000064 00000000 00000001",
     ),
 }
-MESSAGES = {name: (about, bytes.fromhex(text.replace(" ", ""))) for name, (about, text) in MESSAGES.items()}
+
+# of several export times, with the sequence numbers of their order, and of several domains
+TIMED = {
+    "source_at_100": (
+        "at 100 template 256 is a source address",
+        "000a001c 00000064 00000000 00000001 0002000c 01000001 00080004",
+    ),
+    "destination_at_200": (
+        "at 200 it is a destination address",
+        "000a001c 000000c8 00000000 00000001 0002000c 01000001 000c0004",
+    ),
+    "next_hop_at_120": (
+        "at 120 it is the address of a next hop",
+        "000a001c 00000078 00000000 00000001 0002000c 01000001 000f0004",
+    ),
+    "data_at_150": (
+        "records of template 256",
+        "000a0018 00000096 00000000 00000001 01000008 0a000001",
+    ),
+    "data_at_199": ("", "000a0018 000000c7 00000001 00000001 01000008 0a000001"),
+    "data_at_200": ("", "000a0018 000000c8 00000002 00000001 01000008 0a000001"),
+    "data_at_119": ("", "000a0018 00000077 00000003 00000001 01000008 0a000001"),
+    "data_at_99": ("", "000a0018 00000063 00000004 00000001 01000008 0a000001"),
+    "data_at_1900": (
+        "records 1,800 seconds after the template at 100, and one second later",
+        "000a0018 0000076c 00000000 00000001 01000008 0a000001",
+    ),
+    "data_at_1901": ("", "000a0018 0000076d 00000001 00000001 01000008 0a000001"),
+    "source_at_5000": (
+        "at 5000 template 256 is a source address",
+        "000a001c 00001388 00000000 00000001 0002000c 01000001 00080004",
+    ),
+    "flow_at_3200": (
+        "1,800 seconds before it is a destination address, with a record",
+        "000a0024 00000c80 00000000 00000001 0002000c 01000001 000c0004 01000008 0a000002",
+    ),
+    "other_at_3199": (
+        "one second before that template 257 is a source address",
+        "000a001c 00000c7f 00000001 00000001 0002000c 01010001 00080004",
+    ),
+    "other_data_at_3200": (
+        "a record of template 257",
+        "000a0018 00000c80 00000001 00000001 01010008 0a000001",
+    ),
+    "in_domain_2": (
+        "a template of a source address, and one record, in domains 2 and 4",
+        "000a0024 00000064 00000000 00000002 0002000c 01000001 00080004 01000008 0a000002",
+    ),
+    "in_domain_4": ("", "000a0024 00000064 00000000 00000004 0002000c 01000001 00080004 01000008 0a000004"),
+}
+
+
+def octets_of(messages):
+    return {name: (about, bytes.fromhex(text.replace(" ", ""))) for name, (about, text) in messages.items()}
+
+
+MESSAGES = octets_of(MESSAGES)
+TIMED = octets_of(TIMED)
 
 KINDS = {2: "Template", 3: "Options"}
 TEMPLATE_RECORD = "record { front = lit≤ tt; unbroken = refl; whole = refl }"
@@ -183,6 +240,19 @@ def write(path, text):
         file.write(text)
 
 
+def definition(name, about, octets, says):
+    """The octets of a message and what they say; a message without a comment goes with the one above it."""
+    comment = f"-- {about}\n" if about else ""
+    return (
+        f"{comment}abbrev pub {name} : List ℕ\n{name} = {listed(octets)[1:-1]}\n"
+        + (f"\nabbrev pub {name}_message : Message\n{name}_message = {says}\n" if says else "")
+    )
+
+
+def proved(name, proof):
+    return f"pub {name}_says : Says {name} {name}_message\n{name}_says = {proof}\n"
+
+
 def write_definitions():
     specs = [
         """-- Example messages, and what they say. This file is written by tools/examples.py.
@@ -206,16 +276,16 @@ use Rattle.wire_spec.specs.Examples.{%s}
         )
     ]
     for name, (about, octets) in MESSAGES.items():
-        specs.append(f"-- {about}\nabbrev pub {name} : List ℕ\n{name} = {listed(octets)[1:-1]}\n")
         if name == "empty_template":
+            specs.append(definition(name, about, octets, None))
             proofs.append(
                 "pub empty_template_breaks : FirstFault empty_template (record { kind = EmptyRecord; at = 20 })\n"
                 f"empty_template_breaks = {empty_template_proof(octets)}\n"
             )
             continue
         says, proof = said(octets)
-        specs.append(f"abbrev pub {name}_message : Message\n{name}_message = {says}\n")
-        proofs.append(f"pub {name}_says : Says {name} {name}_message\n{name}_says = {proof}\n")
+        specs.append(definition(name, about, octets, says))
+        proofs.append(proved(name, proof))
     write("crates/wire_spec/specs/Examples.antt", "\n".join(specs))
     write("crates/wire_spec/proofs/ExampleLemmas.antt", "\n".join(proofs))
 
@@ -276,6 +346,32 @@ pub fn parts_stand_in_their_messages()
 {{}}
 """,
     )
+
+
+def write_timed():
+    specs = [
+        """-- Example messages of several export times and domains, and what they say. This file is written by tools/examples.py.
+use Rattle.std.specs.Prelude.{ℕ, List, [], ◌∷◌}
+use Rattle.col_base.specs.declared.base.Kind.TheVariants.{Template}
+use Rattle.wire_spec.specs.Content.{Message}
+use Rattle.wire_spec.specs.Content.Touch.{Define}
+use Rattle.wire_spec.specs.Content.Part.{Touches, Body}
+"""
+    ]
+    proofs = [
+        """-- The messages of several export times and domains say what they say. This file is written by tools/examples.py.
+use Rattle.std.proofs.Common.{[], ◌∷◌, refl, lit≤}
+use Rattle.wire_spec.specs.Content.{Says}
+use Rattle.wire_spec.specs.TimedExamples.{%s}
+"""
+        % ", ".join(f"{name}, {name}_message" for name in TIMED)
+    ]
+    for name, (about, octets) in TIMED.items():
+        says, proof = said(octets)
+        specs.append(definition(name, about, octets, says))
+        proofs.append(proved(name, proof))
+    write("crates/wire_spec/specs/TimedExamples.antt", "\n".join(specs))
+    write("crates/wire_spec/proofs/TimedLemmas.antt", "\n".join(proofs))
 
 
 def hundred_flows():
@@ -345,4 +441,5 @@ if __name__ == "__main__":
         sys.exit(1 if found else 0)
     write_definitions()
     write_constants()
+    write_timed()
     write_files()

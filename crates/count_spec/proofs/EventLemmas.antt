@@ -4,6 +4,8 @@ use Rattle.std.specs.Prelude.{Ok, Err}
 use Rattle.col_base.specs.declared.base.Transport.TheVariants.{File, Tcp, Udp}
 use Rattle.wire_spec.specs.declared.malformed.MalformedKind.TheVariants.{EmptyRecord}
 use Rattle.wire_spec.specs.Examples.{data_alone, data_alone_message, empty_template, first_template, first_template_message, one_flow, one_flow_message, second_template, second_template_message, two_templates, two_templates_message, variable_names, variable_names_message, withdrawal, withdrawal_message}
+use Rattle.wire_spec.specs.TimedExamples.{in_domain_2, in_domain_2_message, in_domain_4, in_domain_4_message}
+use Rattle.wire_spec.proofs.TimedLemmas.{in_domain_2_says, in_domain_4_says}
 use Rattle.wire_spec.proofs.ExampleLemmas.{data_alone_says, empty_template_breaks, first_template_says, one_flow_says, second_template_says, two_templates_says, variable_names_says, withdrawal_says}
 use Rattle.arrival_spec.specs.Arrival.Arrival.{SessionOpen, Raw, SessionClose}
 use Rattle.arrival_spec.specs.Examples.{one_and_a_front, over, two_and_another_version}
@@ -57,3 +59,6 @@ not_over_udp_opened = (1, 0, (SessionOpen (key_of 0 0) Udp ∷ Raw (key_of 0 0) 
 
 pub withdrawn_opened : AreOpens (all_over Tcp) (arrivals_of (over Tcp) 0 (stream_of (one_flow ++ withdrawal ++ data_alone ++ one_flow)) ∷ []) 2
 withdrawn_opened = (2, 0, (SessionOpen (key_of 0 0) Tcp ∷ Raw (key_of 0 0) (Ok one_flow_message) ∷ Raw (key_of 0 0) (Ok withdrawal_message) ∷ Raw (key_of 0 0) (Ok data_alone_message) ∷ Raw (key_of 0 0) (Ok one_flow_message) ∷ SessionClose (key_of 0 0) ∷ [], (refl, ((Ok one_flow_message, one_flow_says, refl), ((Ok withdrawal_message, withdrawal_says, refl), ((Ok data_alone_message, data_alone_says, refl), ((Ok one_flow_message, one_flow_says, refl), (refl, tt)))))), refl), refl, refl)
+
+pub three_domains_opened : AreOpens (all_over File) (arrivals_of (over File) 0 (stream_of (first_template ++ in_domain_2 ++ in_domain_4)) ∷ []) 3
+three_domains_opened = (3, 0, (SessionOpen (key_of 0 0) File ∷ Raw (key_of 0 0) (Ok first_template_message) ∷ Raw (key_of 0 0) (Ok in_domain_2_message) ∷ Raw (key_of 0 0) (Ok in_domain_4_message) ∷ SessionClose (key_of 0 0) ∷ [], (refl, ((Ok first_template_message, first_template_says, refl), ((Ok in_domain_2_message, in_domain_2_says, refl), ((Ok in_domain_4_message, in_domain_4_says, refl), (refl, tt))))), refl), refl, refl)

@@ -44,7 +44,7 @@ other_way a b e = by_same (same_key b a) refl
     by_same false f = f
 
 -- a session that is none of some is in none of their counts
-abbrev others_of : SessionKey → List SessionKey → List SessionKey
+abbrev pub others_of : SessionKey → List SessionKey → List SessionKey
 others_of key keys = filter (λ (k : SessionKey). not (same_key k key)) keys
 
 abbrev here_of : SessionKey → (SessionKey → ℕ) → SessionKey → ℕ
@@ -68,10 +68,10 @@ removed key f (k ∷ keys) =
         omega arith
 
 -- the keys of an input alone
-abbrev own_keys : ℕ → List SessionKey → List SessionKey
+abbrev pub own_keys : ℕ → List SessionKey → List SessionKey
 own_keys input keys = filter (λ (k : SessionKey). k.input == input) keys
 
-swapped : (input : ℕ) (key : SessionKey) (keys : List SessionKey) → own_keys input (others_of key keys) ≡ others_of key (own_keys input keys)
+pub swapped : (input : ℕ) (key : SessionKey) (keys : List SessionKey) → own_keys input (others_of key keys) ≡ others_of key (own_keys input keys)
 swapped input key [] = refl
 swapped input key (k ∷ keys) = by_tests (same_key k key) (k.input == input) refl refl (swapped input key keys)
   where
@@ -101,7 +101,7 @@ of_input key (k ∷ keys) =
 
 module _ (inputs : Inputs) where
   -- the open sessions, one arrival later
-  keys_more : (works : List Work) (w : Work) → open_after (works ++ w ∷ []) ≡ open_by (open_after works) w.arrival
+  pub keys_more : (works : List Work) (w : Work) → open_after (works ++ w ∷ []) ≡ open_by (open_after works) w.arrival
   keys_more works w = ap open_keys (map-append (λ (v : Work). v.arrival) works (w ∷ [])) ∙ fold-append (open_by {M = Result Message Fault}) [] (map (λ (v : Work). v.arrival) works) (w.arrival ∷ [])
 
   taken_keeps : (keys : List SessionKey) (a : ReadArrival) (j : Option Judgement) (t : SessionKey × Message) → taken_as a j ≡ t ∷ [] → open_by keys a ≡ keys
@@ -136,7 +136,7 @@ module _ (inputs : Inputs) where
             let further = count_same same list in
             omega arith
 
-    nothing_of : taken_of w ≡ [] → (key : SessionKey) → live_of inputs later key ≡ live_of inputs works key
+    pub nothing_of : taken_of w ≡ [] → (key : SessionKey) → live_of inputs later key ≡ live_of inputs works key
     nothing_of e key = nothing_new key (ap (flat_map (λ (t : SessionKey × Message). cond (same_key t.0 key) (t.1.domain ∷ []) [])) e) (λ d. of_nothing inputs w (key, d) e)
 
     sums_same : ((key : SessionKey) → live_of inputs later key ≡ live_of inputs works key) → (keys : List SessionKey) → sum_by (live_of inputs later) keys ≡ sum_by (live_of inputs works) keys
@@ -158,7 +158,7 @@ module _ (inputs : Inputs) where
       domain_here : (k : SessionKey) → domain_at k w ≡ cond (same_key key k) (m.domain ∷ []) []
       domain_here k = ap (flat_map (λ (t : SessionKey × Message). cond (same_key t.0 k) (t.1.domain ∷ []) [])) e ∙ append-nil (cond (same_key key k) (m.domain ∷ []) [])
 
-      other_session : (k : SessionKey) → same_key k key ≡ false → live_of inputs later k ≡ live_of inputs works k
+      pub other_session : (k : SessionKey) → same_key k key ≡ false → live_of inputs later k ≡ live_of inputs works k
       other_session k f =
           nothing_new k (domain_here k ∙ ap (λ c. cond c (m.domain ∷ []) []) (other_way k key f)) (λ d. of_other inputs w (k, d) (key, m) e (ap (λ c. c && d == m.domain) f))
 

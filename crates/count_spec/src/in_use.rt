@@ -1,9 +1,10 @@
 // Laws of the snapshots that are opened and in use, over all sessions and domains.
-ghost use Rattle.std.specs.Prelude.{◌≡◌, ◌≤◌, ◌+◌, ◌∷◌, ◌++◌, [], List, Ok, Err, Result, ℕ, false, length, map, sum_by, take, true};
+ghost use Rattle.std.specs.Prelude.{◌≡◌, ◌≢◌, ◌≤◌, ◌+◌, ◌∷◌, ◌++◌, [], List, Ok, Err, Result, ℕ, false, length, map, sum_by, take, true};
 ghost use Rattle.col_base.specs.declared.base.SessionKey.{SessionKey};
 ghost use Rattle.col_base.specs.declared.base.Transport.{Transport};
 ghost use Rattle.wire_spec.specs.declared.malformed.Malformed.{Malformed};
 ghost use Rattle.wire_spec.specs.Content.{Message};
+ghost use Rattle.arrival_spec.specs.Arrival.{input_of};
 ghost use Rattle.arrival_spec.specs.Arrival.Arrival.{Periodic, Raw, SessionClose, SessionOpen};
 ghost use Rattle.arrival_spec.specs.Order.{are_in_order};
 ghost use Rattle.run_spec.specs.Judge.{Inputs};
@@ -35,7 +36,8 @@ pub fn snapshots_in_use_move_with_the_message()
 {}
 
 /// The number of live snapshots of an input moves by that of a message's own session and domain. A message that is dropped
-/// and a tick leave it, a session that closes takes its own away, and one that opens has none.
+/// and a tick leave it, and so does what is of another input; a session that closes takes its own away, and one that opens
+/// has none.
 pub fn live_snapshots_move_arrival_by_arrival()
     ensures taken { (inputs : Inputs) (works : List Work) (w : Work) (key : SessionKey) (m : Message) → taken_of w ≡ (key, m) ∷ [] → IsOpenOnce key works
         → live_in inputs key.input (works ++ w ∷ []) + one_if (live_at inputs key m.domain works) ≡ live_in inputs key.input works + one_if (live_at inputs key m.domain (works ++ w ∷ [])) }
@@ -44,4 +46,5 @@ pub fn live_snapshots_move_arrival_by_arrival()
     ensures closed { (inputs : Inputs) (works : List Work) (w : Work) (key : SessionKey) → w.arrival ≡ SessionClose key → IsOpenOnce key works → live_in inputs key.input (works ++ w ∷ []) + live_of inputs works key ≡ live_in inputs key.input works }
     ensures opened { (inputs : Inputs) (works : List Work) (w : Work) (key : SessionKey) (transport : Transport) → w.arrival ≡ SessionOpen key transport → domains_of key works ≡ []
         → live_in inputs key.input (works ++ w ∷ []) ≡ live_in inputs key.input works }
+    ensures other { (inputs : Inputs) (input : ℕ) (works : List Work) (w : Work) → input_of w.arrival ≢ input → live_in inputs input (works ++ w ∷ []) ≡ live_in inputs input works }
 {}

@@ -30,6 +30,19 @@ source_line = line "{\"@type\":\"ipfix.entry\",\"iana:sourceIPv4Address\":\"10.0
 abbrev pub destination_line : List ℕ
 destination_line = line "{\"@type\":\"ipfix.entry\",\"iana:destinationIPv4Address\":\"10.0.0.2\"}"
 
+-- other addresses of these elements, and of a next hop
+abbrev pub second_source_line : List ℕ
+second_source_line = line "{\"@type\":\"ipfix.entry\",\"iana:sourceIPv4Address\":\"10.0.0.2\"}"
+
+abbrev pub fourth_line : List ℕ
+fourth_line = line "{\"@type\":\"ipfix.entry\",\"iana:sourceIPv4Address\":\"10.0.0.4\"}"
+
+abbrev pub first_destination_line : List ℕ
+first_destination_line = line "{\"@type\":\"ipfix.entry\",\"iana:destinationIPv4Address\":\"10.0.0.1\"}"
+
+abbrev pub next_hop_line : List ℕ
+next_hop_line = line "{\"@type\":\"ipfix.entry\",\"iana:ipNextHopIPv4Address\":\"10.0.0.1\"}"
+
 abbrev pub repeated_line : List ℕ
 repeated_line = line "{\"@type\":\"ipfix.entry\",\"iana:octetDeltaCount\":[5,6],\"en9:id7\":\"0xabcd\"}"
 
