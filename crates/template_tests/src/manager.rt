@@ -1,10 +1,10 @@
 // Template records one after another, and what they leave, as lists of calls.
-use super::*;
 use col_base::{Kind, Lifetimes, SnapRef, Transport};
 use std::alloc::Global;
 use std::sync::Arc;
 use std::test::Fail;
 use template_def::{Definition, well_formed};
+use template_manager::{Manager, Need, Resolved, Taken, Touch};
 use template_snapshot::Snapshot;
 
 /// Half an hour for all.
