@@ -3,7 +3,7 @@
 
 Each round makes an IPFIX File out of templates, withdrawals, data sets and strange sets of a few domains, most of
 them right; many are then cut or changed in some octets. What `direct` answers and writes is compared with what
-RFC 7011 and docs/FORMATS.md say of the file, read here set by set. The first file that differs is kept in the
+RFC 7011 and docs/FORMATS.md say of the file, as tools/decoded.py reads it. The first file that differs is kept in the
 system's folder for temporary files.
 """
 
@@ -12,107 +12,15 @@ import subprocess
 import sys
 import tempfile
 
-VARIABLE = 65535
+sys.dont_write_bytecode = True
+
+from decoded import VARIABLE, decoded, number
+
 NAMES = {1: "octetDeltaCount", 8: "sourceIPv4Address", 12: "destinationIPv4Address"}
-MOST_DOMAINS = 1024
 
 
 class NotBuilt(Exception):
     """A decoded record whose text is not built yet."""
-
-
-class Malformed(Exception):
-    """A message that breaks a rule."""
-
-
-def number(octets):
-    return int.from_bytes(octets, "big")
-
-
-def messages_of(stream):
-    """The whole messages of a stream, up to what is torn or broken."""
-    while len(stream) >= 4 and number(stream[:2]) == 10 and 16 <= number(stream[2:4]) <= len(stream):
-        length = number(stream[2:4])
-        yield stream[:length]
-        stream = stream[length:]
-
-
-def sets_of(message):
-    """The sets of a message, each with its ID and its body."""
-    at = 16
-    while at < len(message):
-        if len(message) - at < 4:
-            raise Malformed
-        length = number(message[at + 2 : at + 4])
-        if length < 4 or at + length > len(message):
-            raise Malformed
-        yield number(message[at : at + 2]), message[at + 4 : at + length]
-        at += length
-
-
-def template_records_of(set_id, body):
-    """(template ID, None) for a withdrawal, else (template ID, (kind, scope, fields))."""
-    while len(body) >= 4 and any(body):
-        template, count = number(body[:2]), number(body[2:4])
-        if template < 256 and not (template == set_id and count == 0):
-            raise Malformed
-        body = body[4:]
-        if count == 0:
-            yield template, None
-            continue
-        scope = 0
-        if set_id == 3:
-            if len(body) < 2:
-                raise Malformed
-            scope, body = number(body[:2]), body[2:]
-            if scope == 0 or scope > count:
-                raise Malformed
-        fields = []
-        for _ in range(count):
-            size = 8 if body and body[0] & 0x80 else 4
-            if len(body) < size:
-                raise Malformed
-            enterprise = number(body[4:8]) if size == 8 else 0
-            fields.append((enterprise, number(body[:2]) & 0x7FFF, number(body[2:4])))
-            body = body[size:]
-        if least(fields) == 0:
-            raise Malformed
-        yield template, (set_id, scope, fields)
-
-
-def least(fields):
-    return sum(1 if length == VARIABLE else length for _, _, length in fields)
-
-
-def record_of(fields, body):
-    """The values of the record that begins the body, and what is behind it; None where none does."""
-    values = []
-    for _, _, length in fields:
-        if length == VARIABLE:
-            if not body:
-                return None
-            length, body = body[0], body[1:]
-            if length == 255:
-                if len(body) < 2:
-                    return None
-                length, body = number(body[:2]), body[2:]
-        if len(body) < length:
-            return None
-        values.append(body[:length])
-        body = body[length:]
-    return values, body
-
-
-def records_of(fields, body):
-    """The records of a body; None where it has no cutting into records and padding."""
-    records = []
-    while len(body) >= least(fields):
-        found = record_of(fields, body)
-        if found is None:
-            return None
-        records.append(found[0])
-        body = found[1]
-    return records
 
 
 def text_of(element, value):
@@ -135,37 +43,14 @@ def is_built(definition):
     return kind == 2 and known and len(set(elements)) == len(elements)
 
 
-def touch(table, set_id, template, definition):
-    if definition is not None:
-        table[template] = definition
-    elif template == set_id:
-        for other in [key for key, (kind, _, _) in table.items() if kind == set_id]:
-            del table[other]
-    else:
-        table.pop(template, None)
-
-
 def lines_of(stream):
     """The lines of a stream."""
-    tables, lines = {}, []
-    for message in messages_of(stream):
-        try:
-            sets = [(i, body, list(template_records_of(i, body)) if i in (2, 3) else []) for i, body in sets_of(message)]
-        except Malformed:
-            continue
-        domain = number(message[12:16])
-        if domain not in tables and len(tables) == MOST_DOMAINS:
-            continue
-        table = tables.setdefault(domain, {})
-        for set_id, body, touches in sets:
-            for template, definition in touches:
-                touch(table, set_id, template, definition)
-            if set_id >= 256 and set_id in table:
-                fields = table[set_id][2]
-                records = records_of(fields, body)
-                if records and not is_built(table[set_id]):
-                    raise NotBuilt
-                lines.extend(line_of(fields, values) for values in records or [])
+    lines = []
+    for _, sets in decoded(stream):
+        for _, definition, records in sets or []:
+            if records and not is_built(definition):
+                raise NotBuilt
+            lines.extend(line_of(definition[2], values) for values in records or [])
     return lines
 
 
