@@ -19,19 +19,19 @@ use Rattle.count_spec.specs.More.{one_if, IsOpenOnce}
 use Rattle.count_spec.proofs.InUseLemmas.{other_way}
 use Rattle.count_spec.proofs.SumLemmas.{some_counted}
 
-abbrev count_of : SessionKey → List SessionKey → ℕ
+abbrev pub count_of : SessionKey → List SessionKey → ℕ
 count_of q keys = count_by (λ (k : SessionKey). same_key k q) keys
 
 -- each open session was opened, and stands once
-record Sound (opened keys : List SessionKey) : Type 0 where
-  few : (q : SessionKey) → count_of q keys ≤ 1
-  known : (q : SessionKey) → has_key q opened ≡ false → count_of q keys ≡ 0
+pub record Sound (opened keys : List SessionKey) : Type 0 where
+  pub few : (q : SessionKey) → count_of q keys ≤ 1
+  pub known : (q : SessionKey) → has_key q opened ≡ false → count_of q keys ≡ 0
 
-or_parts : (a b : Bool) → a || b ≡ false → (a ≡ false) × (b ≡ false)
+pub or_parts : (a b : Bool) → a || b ≡ false → (a ≡ false) × (b ≡ false)
 or_parts true b e = absurd cc
 or_parts false b e = (refl, e)
 
-not_true : (b : Bool) → not b ≡ true → b ≡ false
+pub not_true : (b : Bool) → not b ≡ true → b ≡ false
 not_true true e = absurd cc
 not_true false e = refl
 
@@ -78,7 +78,7 @@ step opened keys (SessionClose key) fits s =
       known = λ q none. (let a = fewer q key keys in let b = s.known q none in omega arith);
     })
 
-opened_more : (before : List ReadArrival) (a : ReadArrival) → opened_keys (before ++ a ∷ []) ≡ opened_keys before ++ opened_in a
+pub opened_more : (before : List ReadArrival) (a : ReadArrival) → opened_keys (before ++ a ∷ []) ≡ opened_keys before ++ opened_in a
 opened_more before a = flat_map-append (opened_in {M = Result Message Fault}) before (a ∷ []) ∙ ap (λ l. opened_keys before ++ l) (append-nil (opened_in a))
 
 open_more : (before : List ReadArrival) (a : ReadArrival) → open_keys (before ++ a ∷ []) ≡ open_by (open_keys before) a
@@ -97,7 +97,7 @@ ends before (b ∷ list) a e s =
     let further = ends (before ++ b ∷ []) list a p.1 next in
     subst (λ (l : List ReadArrival). Sound (opened_keys l) (open_keys l) × (may_come l a ≡ true)) (append_assoc before (b ∷ []) list) further
 
-at_end : (list : List ReadArrival) (a : ReadArrival) → are_in_order (list ++ a ∷ []) ≡ true → Sound (opened_keys list) (open_keys list) × (may_come list a ≡ true)
+pub at_end : (list : List ReadArrival) (a : ReadArrival) → are_in_order (list ++ a ∷ []) ≡ true → Sound (opened_keys list) (open_keys list) × (may_come list a ≡ true)
 at_end list a e = ends [] list a e (record { few = λ q. omega arith; known = λ q none. refl })
 
 there_once : (key : SessionKey) (list : List ReadArrival) → Sound (opened_keys list) (open_keys list) → has_key key (open_keys list) ≡ true → count_of key (open_keys list) ≡ 1
@@ -117,7 +117,7 @@ there_once key list s there =
             ap (λ b. b || list_any (λ (x : SessionKey). same_key x key) keys) (ap (λ (x : SessionKey). same_key x key) (sym same) ∙ own_is key)
         by_same false f g further = ap (λ b. b || list_any (λ (x : SessionKey). same_key x key) keys) (other_way key k f) ∙ further g
 
-abbrev arrivals : List Work → List ReadArrival
+abbrev pub arrivals : List Work → List ReadArrival
 arrivals works = map (λ (w : Work). w.arrival) works
 
 -- A message, and a closing, come in a session that is open once.

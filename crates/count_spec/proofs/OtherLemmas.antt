@@ -1,5 +1,5 @@
 -- What comes in a session of another input leaves the live snapshots of an input as they were.
-use Rattle.std.proofs.Common.{◌≡◌, ℕ, ◌+◌, inl, inr, Bool, true, false, not, cond, List, [], ◌∷◌, ◌++◌, Some, None, refl, ap, sym, ◌∙◌, arith, append-nil}
+use Rattle.std.proofs.Common.{◌≡◌, ℕ, inl, inr, Bool, true, false, not, cond, List, [], ◌∷◌, ◌++◌, Some, None, refl, ap, sym, ◌∙◌, arith, append-nil}
 use Rattle.std.specs.Prelude.{Ok, Err, Option, ◌==◌, ◌≢◌, sum_by}
 use Rattle.std.proofs.lemmas.Bool.{eqb-true}
 use Rattle.std.proofs.lemmas.List.Elements.{filter-append}
@@ -14,7 +14,7 @@ use Rattle.run_spec.specs.Judge.{Inputs, Judgement}
 use Rattle.run_spec.specs.Judge.Judgement.{Malformed, Crowded, Late, Taken}
 use Rattle.run_spec.specs.Work.{Work}
 use Rattle.run_spec.proofs.ApartLemmas.{same_is}
-use Rattle.count_spec.specs.Counts.{taken_as, taken_of}
+use Rattle.count_spec.specs.Counts.{taken_as}
 use Rattle.count_spec.specs.Openings.{open_after, live_of, live_in}
 use Rattle.count_spec.proofs.InUseLemmas.{others_of, own_keys, swapped, keys_more, nothing_of, other_session}
 use Rattle.count_spec.proofs.PairLemmas.{taken_is}

@@ -63,7 +63,7 @@ touches list = flat_map touch_of list
 
 module _ (transport : Transport) where
   -- deeds one after another
-  openings_on : (before list more : List Deed) (live : Bool)
+  pub openings_on : (before list more : List Deed) (live : Bool)
       → openings_after transport before live (list ++ more) ≡ openings_after transport before live list + openings_after transport (before ++ list) (live_after transport before live list) more
   openings_on before [] more live =
       let same : openings_after transport (before ++ []) live more ≡ openings_after transport before live more = ap (λ b. openings_after transport b live more) (append-nil before) in

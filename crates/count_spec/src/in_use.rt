@@ -1,5 +1,5 @@
 // Laws of the snapshots that are opened and in use, over all sessions and domains.
-ghost use Rattle.std.specs.Prelude.{◌≡◌, ◌≢◌, ◌≤◌, ◌+◌, ◌∷◌, ◌++◌, [], List, Ok, Err, Result, ℕ, false, length, map, sum_by, take, true};
+ghost use Rattle.std.specs.Prelude.{◌≡◌, ◌≢◌, ◌≤◌, ◌<◌, ◌+◌, ◌∷◌, ◌++◌, [], List, Ok, Err, Result, ℕ, false, length, map, sum_by, take, true};
 ghost use Rattle.col_base.specs.declared.base.SessionKey.{SessionKey};
 ghost use Rattle.col_base.specs.declared.base.Transport.{Transport};
 ghost use Rattle.wire_spec.specs.declared.malformed.Malformed.{Malformed};
@@ -47,4 +47,16 @@ pub fn live_snapshots_move_arrival_by_arrival()
     ensures opened { (inputs : Inputs) (works : List Work) (w : Work) (key : SessionKey) (transport : Transport) → w.arrival ≡ SessionOpen key transport → domains_of key works ≡ []
         → live_in inputs key.input (works ++ w ∷ []) ≡ live_in inputs key.input works }
     ensures other { (inputs : Inputs) (input : ℕ) (works : List Work) (w : Work) → input_of w.arrival ≢ input → live_in inputs input (works ++ w ∷ []) ≡ live_in inputs input works }
+{}
+
+/// In arrivals in order no more snapshots are live, or in use before a set, than were opened before; and these are some of all
+/// that the run opens. So where a set opens one, fewer are in use than the run has sessions and domains with a decoded set
+/// and template records: as many slots are enough.
+pub fn no_more_are_in_use_than_were_opened()
+    ensures live { (inputs : Inputs) (input : ℕ) (works : List Work) → are_in_order (map (λ v. v.arrival) works) ≡ true → live_in inputs input works ≤ opens inputs works }
+    ensures before { (inputs : Inputs) (before after : List Work) (w : Work) (n : ℕ) → are_in_order (map (λ v. v.arrival) (before ++ w ∷ [])) ≡ true → in_use inputs (before ++ w ∷ after) (length before) n ≤ opens inputs (before ++ first_sets n w ∷ []) }
+    ensures some { (inputs : Inputs) (before after : List Work) (w : Work) (n : ℕ) → opens inputs (before ++ first_sets n w ∷ []) ≤ opens inputs (before ++ w ∷ after) }
+    ensures enough { (inputs : Inputs) (before after : List Work) (w : Work) (n : ℕ) → are_in_order (map (λ v. v.arrival) (before ++ w ∷ [])) ≡ true
+        → opens inputs (before ++ first_sets n w ∷ []) < opens inputs (before ++ first_sets (1 + n) w ∷ [])
+        → in_use inputs (before ++ w ∷ after) (length before) n < length (pairs (before ++ w ∷ after)) + touches_taken inputs (before ++ w ∷ after) }
 {}
