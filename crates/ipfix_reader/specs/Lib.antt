@@ -2,4 +2,3 @@ pub mod Specifiers
 pub mod Walk
 pub mod Octets
 pub mod Left
-pub mod DefinedIds

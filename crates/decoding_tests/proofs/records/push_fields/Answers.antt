@@ -4,9 +4,9 @@ use Rattle.std.proofs.lemmas.List.{append-nil, map-append}
 use Rattle.std.proofs.lemmas.List.Concat.{flat_map-append}
 use Rattle.record_iter.specs.Left.{fields_left, octets_left, place_of}
 use Rattle.record_iter.specs.Walk.{HaveValues}
-use Rattle.record_iter.specs.Shown.{Placed, row_of}
+use Rattle.decoding_tests.specs.Shown.{Placed, row_of}
 use Rattle.record_iter.proofs.WalkLemmas.{values_more}
-use Rattle.record_iter.proofs.tests.push_fields.Goals as goal
+use Rattle.decoding_tests.proofs.records.push_fields.Goals as goal
 
 -- one row more
 rows_more : (before rows new : List ℕ) (placed : List Placed) (p : Placed) → rows ≡ before ++ flat_map row_of placed → new ≡ rows ++ row_of p → new ≡ before ++ flat_map row_of (placed ++ p ∷ [])

@@ -5,9 +5,9 @@ use Rattle.std.proofs.lemmas.List.Concat.{flat_map-append}
 use Rattle.wire_spec.specs.declared.field.FieldSpec.{FieldSpec}
 use Rattle.wire_spec.specs.Record.{IsRecord}
 use Rattle.record_iter.specs.Left.{records_left, fields_of_each}
-use Rattle.record_iter.specs.Shown.{Placed, row_of, values_of, HaveAllValues}
+use Rattle.decoding_tests.specs.Shown.{Placed, row_of, values_of, HaveAllValues}
 use Rattle.record_iter.proofs.WalkLemmas.{records_none, records_more}
-use Rattle.record_iter.proofs.tests.rows_of.Goals as goal
+use Rattle.decoding_tests.proofs.records.rows_of.Goals as goal
 
 -- one more record with its values
 all_more : (fields : List FieldSpec) (list : List (List ℕ)) (placed : List (List Placed)) (rec : List ℕ) (p : List Placed) → HaveAllValues fields list placed → IsRecord fields rec (values_of p) → HaveAllValues fields (list ++ rec ∷ []) (placed ++ p ∷ [])

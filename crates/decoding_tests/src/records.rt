@@ -1,10 +1,10 @@
 // Tests, and a caller that walks over records and their fields.
 ghost use Rattle.std.specs.Prelude.{◌≡◌, ◌++◌, List, IfOk, OnOk, MatchOption, flat_map};
 ghost use Rattle.wire_spec.specs.Record.{IsRecord, IsSomeRecord, AreSomeRecords};
-ghost use Rattle.record_iter.specs.Shown.{Placed, row_of, values_of, AreRowsOf};
+ghost use Rattle.decoding_tests.specs.Shown.{Placed, row_of, values_of, AreRowsOf};
 
-use super::*;
 use col_base::Kind;
+use record_iter::{FieldValue, fields, records, value_place};
 use sample_messages::{
     FLOW_RECORD, FLOW_SPECIFIERS, NAME_SPECIFIERS, NAMES_BODY, OPTIONS_RECORD, OPTIONS_SPECIFIERS,
     PADDED_FLOW_BODY, REPEATED_RECORD, REPEATED_SPECIFIERS, TWO_FLOWS_BODY,
@@ -159,6 +159,9 @@ fn a_value_is_written_over(rt: HostRuntime) -> Result<(), Fail> {
     for octet in &mut rec[place.at..place.at + place.len] {
         *octet = 0;
     }
-    assert!(rt; rec.as_slice() == [3, 97, 98, 99, 255, 0, 3, 0, 0, 0]);
+    assert_eq!(rt;
+        rec.as_slice(),
+        [3, 97, 98, 99, 255, 0, 3, 0, 0, 0].as_slice()
+    );
     Ok(())
 }

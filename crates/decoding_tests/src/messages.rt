@@ -3,10 +3,10 @@ ghost use Rattle.std.specs.Prelude.{◌≡◌, ◌++◌, List, ℕ, IfOk};
 ghost use Rattle.wire_spec.specs.Content.{Part, Says};
 ghost use Rattle.ipfix_reader.specs.Walk.{RawSays, message_of};
 ghost use Rattle.ipfix_reader.specs.Octets.{octets_of};
-ghost use Rattle.ipfix_reader.specs.DefinedIds.{ids_of, defined_ids};
+ghost use Rattle.decoding_tests.specs.DefinedIds.{ids_of, defined_ids};
 
-use super::*;
 use col_base::Kind;
+use ipfix_reader::{Header, Malformed, MalformedKind, Message, RawSet, check, template_records};
 use sample_messages::ONE_FLOW;
 use std::alloc::{AllocError, Global};
 use std::test::Fail;

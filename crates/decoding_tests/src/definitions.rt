@@ -1,11 +1,11 @@
 // Tests, and a caller that writes a definition and reads it again.
 ghost use Rattle.std.specs.Prelude.{◌≡◌, IfOk};
 
-use super::*;
 use col_base::{Kind, Octets, WantOfMemory};
 use sample_messages::{FLOW_SPECIFIERS, NAME_SPECIFIERS, REPEATED_SPECIFIERS};
 use std::alloc::Global;
 use std::test::Fail;
+use template_def::{Definition, FieldSpec, well_formed};
 
 /// The definition that is read from what is written of one.
 fn read_again(alloc: Global, definition: &Definition) -> Result<Definition, WantOfMemory>

@@ -2,9 +2,9 @@ use Rattle.std.proofs.Common.{◌++◌, [], ◌∷◌, ap, sym, ◌∙◌}
 use Rattle.std.proofs.lemmas.List.{append-nil}
 use Rattle.std.proofs.lemmas.List.Concat.{flat_map-append}
 use Rattle.ipfix_reader.specs.Left.{sets_left, place_of}
-use Rattle.ipfix_reader.specs.DefinedIds.{ids_of, defined_ids}
+use Rattle.decoding_tests.specs.DefinedIds.{ids_of, defined_ids}
 use Rattle.ipfix_reader.proofs.WalkLemmas.{said_more, said_all}
-use Rattle.ipfix_reader.proofs.tests.ids_in.Goals as goal
+use Rattle.decoding_tests.proofs.messages.ids_in.Goals as goal
 
 pub loop-set-preserved : goal.loop-set-preserved
 loop-set-preserved c =

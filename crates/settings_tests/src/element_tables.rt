@@ -1,5 +1,5 @@
 // What no contract says: that the calls succeed, and that the definition's faults are the ones meant.
-use crate::{Element, ElementType, Elements, TableFault};
+use element_table::{ElementType, Elements, TableFault};
 use std::alloc::Global;
 use std::process::Abort;
 use std::test::Fail;

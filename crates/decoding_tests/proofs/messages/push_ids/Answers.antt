@@ -8,9 +8,9 @@ use Rattle.wire_spec.specs.Content.Part.{Touches, Body}
 use Rattle.ipfix_reader.specs.declared.raw.RawTemplate.{RawTemplate}
 use Rattle.ipfix_reader.specs.Left.{kind_left, templates_left}
 use Rattle.ipfix_reader.specs.Walk.{touch_by}
-use Rattle.ipfix_reader.specs.DefinedIds.{id_of}
+use Rattle.decoding_tests.specs.DefinedIds.{id_of}
 use Rattle.ipfix_reader.proofs.WalkLemmas.{touched_more, touched_all, body_said, no_kind}
-use Rattle.ipfix_reader.proofs.tests.push_ids.Goals as goal
+use Rattle.decoding_tests.proofs.messages.push_ids.Goals as goal
 
 defined : (t : RawTemplate) → (t.count ≡ 0 → ⊥) → id_of (touch_by t) ≡ t.id ∷ []
 defined t ne = rw (ne_eqb t.count 0 ne) refl
