@@ -16,7 +16,7 @@ use site_io::{InputSpec, OutsideFault, Sink, Site, Source};
 use std::alloc::{AllocError, Global};
 
 /// What came of a call.
-#[derive(Clone, Copy, Debug, PartialEq, Eq)]
+#[derive(Clone, Copy, PartialEq, Eq)]
 pub enum Outcome {
     /// Memory was wanted.
     Memory,

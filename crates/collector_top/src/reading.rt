@@ -18,7 +18,7 @@ const ANSWERS: u64 = 1 << 48;
 const ROOM: usize = 65535;
 
 /// Where the one stream of a file stands.
-#[derive(Clone, Copy, Debug, PartialEq, Eq)]
+#[derive(Clone, Copy, PartialEq, Eq)]
 pub enum Phase {
     Before,
     Open,
@@ -80,7 +80,7 @@ fn take_messages(cutter: &mut Cutter, messages: &mut Vec<Octets>) -> Result<bool
 }
 
 /// Why the reading ended.
-#[derive(Clone, Copy, Debug, PartialEq, Eq)]
+#[derive(Clone, Copy, PartialEq, Eq)]
 pub enum ReadEnd {
     End,
     Fault,

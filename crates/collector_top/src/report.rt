@@ -10,7 +10,7 @@ use crate::reading::ReadEnd;
 use site_io::{OutsideFault, Site};
 
 /// A line that a call prints.
-#[derive(Clone, Copy, Debug, PartialEq, Eq)]
+#[derive(Clone, Copy, PartialEq, Eq)]
 pub enum Line {
     Usage,
     NotBuilt,

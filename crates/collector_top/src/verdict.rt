@@ -34,7 +34,7 @@ impl From<AllocError> for Refusal {
 }
 
 /// What a line is made of beside names and faults.
-#[derive(Clone, Copy, Debug, PartialEq, Eq)]
+#[derive(Clone, Copy, PartialEq, Eq)]
 pub enum Piece {
     Fine,
     Source,

@@ -6,7 +6,7 @@ ghost use Rattle.words_spec.specs.Commands.{direct_word, check_word, collect_wor
 ghost use Rattle.words_spec.specs.Commands.Command.{Check, Collect};
 ghost use Rattle.collector_top.specs.Words.{told};
 
-use startup_config::number_text;
+use setting_texts::number_text;
 
 /// The first octet of an option.
 const DASH: u8 = b'-';
@@ -15,7 +15,7 @@ const DASH: u8 = b'-';
 const MOST_MESSAGES: u64 = 1_000_000;
 
 /// What words ask for.
-#[derive(Clone, Copy, Debug, PartialEq, Eq)]
+#[derive(Clone, Copy, PartialEq, Eq)]
 pub enum Command<'a> {
     /// `direct IN OUT`
     Direct { place: &'a str, out: &'a str },

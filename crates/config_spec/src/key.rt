@@ -1,13 +1,13 @@
 // The keys and the tables of a description.
 
 /// The version of a description, which says which keys its tables have.
-#[derive(Clone, Copy, Debug, PartialEq, Eq)]
+#[derive(Clone, Copy, PartialEq, Eq)]
 pub enum Version {
     One,
 }
 
 /// A key of a table.
-#[derive(Clone, Copy, Debug, PartialEq, Eq)]
+#[derive(Clone, Copy, PartialEq, Eq)]
 pub enum Key {
     Version,
     Ring,
@@ -48,7 +48,7 @@ pub enum Key {
 }
 
 /// The kinds of tables. Each has its keys.
-#[derive(Clone, Copy, Debug, PartialEq, Eq)]
+#[derive(Clone, Copy, PartialEq, Eq)]
 pub enum TableKind {
     /// The top table.
     Top,
@@ -71,7 +71,7 @@ pub enum TableKind {
 }
 
 /// What a table is for.
-#[derive(Clone, Copy, Debug, PartialEq, Eq)]
+#[derive(Clone, Copy, PartialEq, Eq)]
 pub enum TableSort {
     Input,
     Intermediate,
@@ -82,7 +82,7 @@ pub enum TableSort {
 }
 
 /// What decides the kind of a table: the word at a key, or nothing, where there is one kind.
-#[derive(Clone, Copy, Debug, PartialEq, Eq)]
+#[derive(Clone, Copy, PartialEq, Eq)]
 pub enum Choice {
     By(Key),
     Always(TableKind),

@@ -2,7 +2,7 @@
 use crate::key::Key;
 
 /// A key of a table, what its value has to be, and whether it has to be there.
-#[derive(Clone, Copy, Debug, PartialEq, Eq)]
+#[derive(Clone, Copy, PartialEq, Eq)]
 pub struct KeyRow {
     pub key: Key,
     pub shape: Shape,
@@ -10,7 +10,7 @@ pub struct KeyRow {
 }
 
 /// Whether a key has to be there, and what stands in its place where it isn't.
-#[derive(Clone, Copy, Debug, PartialEq, Eq)]
+#[derive(Clone, Copy, PartialEq, Eq)]
 pub enum Need {
     Required,
     /// Nothing stands in its place: no text, or no tables.
@@ -21,7 +21,7 @@ pub enum Need {
 }
 
 /// What a key's value has to be.
-#[derive(Clone, Copy, Debug, PartialEq, Eq)]
+#[derive(Clone, Copy, PartialEq, Eq)]
 pub enum Shape {
     /// The word by which the kind was chosen, and which was judged there.
     Chosen,
@@ -52,7 +52,7 @@ pub enum Shape {
 }
 
 /// What a value is at its key.
-#[derive(Clone, Copy, Debug, PartialEq, Eq)]
+#[derive(Clone, Copy, PartialEq, Eq)]
 pub enum Verdict {
     Right,
     WrongType,

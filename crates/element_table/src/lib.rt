@@ -12,8 +12,6 @@ mod fault;
 mod keys;
 mod names;
 mod rows;
-#[cfg(test)]
-mod tests;
 
 pub use element_spec::TableFault;
 pub use elements::Elements;

@@ -2,5 +2,4 @@ pub mod Specifiers
 pub mod Walk
 pub mod Octets
 pub mod Left
-pub mod DefinedIds
 pub mod Cases

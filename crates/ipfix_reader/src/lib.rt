@@ -4,7 +4,7 @@
 //!
 //! Contracts see a message as its octets (`octets_of`), and a walk as what is left of it (`sets_left`,
 //! `templates_left`). A loop over `sets` keeps `HaveSaid`, one over `template_records` keeps `HaveTouched`,
-//! and the lemmas of proofs/WalkLemmas lead from them to `Says` of wire_spec: src/tests.rt has such a caller.
+//! and the lemmas of proofs/WalkLemmas lead from them to `Says` of wire_spec: `decoding_tests` has such a caller.
 //! The lanes that decode stand above.
 #![tactic(auto)]
 
@@ -23,6 +23,3 @@ pub use raw::{RawDefinition, RawSet, RawTemplate, RawTouch, SetContent};
 pub use set_walk::Sets;
 pub use template_walk::TemplateRecords;
 pub use wire_spec::{Malformed, MalformedKind};
-
-#[cfg(test)]
-mod tests;

@@ -1,4 +1,3 @@
 pub mod Walk
 pub mod Left
-pub mod Shown
 pub mod Place

@@ -4,7 +4,7 @@
 //!
 //! Contracts see a walk as what is left of it (`records_left`, `fields_left`). A loop over `records` keeps `HaveRecords`,
 //! one over `fields` keeps `HaveValues`, and the lemmas of proofs/WalkLemmas lead from them to `IsRecords` and `IsRecord`
-//! of wire_spec: src/tests.rt has such a caller. The lanes that decode and print stand above.
+//! of wire_spec: `decoding_tests` has such a caller. The lanes that decode and print stand above.
 #![tactic(auto)]
 
 mod cut;
@@ -19,6 +19,3 @@ pub use field_walk::Fields;
 pub use place::{ValuePlace, value_place};
 pub use record_walk::{NotRecords, Records};
 pub use value::FieldValue;
-
-#[cfg(test)]
-mod tests;

@@ -7,9 +7,8 @@ ghost use Rattle.config_spec.specs.Description.{no_input, no_output, no_order_lo
 
 use crate::made::conf_in;
 use crate::repeats::{names_differ, paths_differ, prefixes_differ};
-use crate::tree::items_at;
-use crate::whole::{tables_fit, version_of};
 use config_spec::{Conf, ConfFault, Key, Version};
+use setting_tables::{items_at, tables_fit, version_of};
 use std::alloc::Global;
 use toml::Table;
 

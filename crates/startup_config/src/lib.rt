@@ -4,22 +4,11 @@
 //! a run, opens its files or prints the fault.
 #![tactic(auto)]
 
-mod address;
-mod decimal_text;
 mod description;
-mod domain_text;
 mod fault;
-mod fits;
 mod made;
-mod marks;
 mod repeats;
-mod rows;
-mod tables;
-mod tree;
 mod values;
-mod walk;
-mod whole;
-mod words;
 
 pub use arrival_spec::InputSpec;
 pub use config_spec::{
@@ -27,6 +16,5 @@ pub use config_spec::{
     Inputs, Listed, Names, OutputConf, OutputKind, Outputs, Pair, Pairs, Prefix, Ranges, Rule,
     Rules, StageConf, StageWork, Stages, Test,
 };
-pub use decimal_text::number_text;
 pub use description::read;
 pub use fault::fault_text;

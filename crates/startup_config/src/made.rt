@@ -5,11 +5,6 @@ ghost use Rattle.config_spec.specs.declared.key.Version.{Version};
 ghost use Rattle.toml.specs.View.{view, table_view};
 ghost use Rattle.config_spec.specs.Values.{each_table, tables_at, each_text, texts_at, pair_of, test_in, rule_of, anon_row_of, anon_table_of, filter_table_of, work_in, stage_of, transport_in, place_in, spec_of, input_of, output_in, output_of, order_log_of, conf_in};
 
-use crate::rows::{
-    ACT, CUT4, CUT6, DEFAULT_ACT, HIGH, ID, IDLE, LAST_TEMPLATE_ID, LATE, LOW, OPTIONS,
-    OPTIONS_LIFETIME, PEN, RING, SLOTS, STOP_AFTER, TEMPLATE_LIFETIME, VALUE,
-};
-use crate::tree::{items_at, text_at, text_found};
 use crate::values::{
     address_at, domains_of, flag_of, keeps, kind_at, long_of, number_of, octet_of, prefix_at,
     short_of,
@@ -20,6 +15,11 @@ use config_spec::{
     AnonRow, AnonTable, Conf, FilterTable, InputConf, Key, Listed, Names, OutputConf, OutputKind,
     Pair, Rule, StageConf, StageWork, TableKind, TableSort, Test, Version,
 };
+use setting_tables::rows::{
+    ACT, CUT4, CUT6, DEFAULT_ACT, HIGH, ID, IDLE, LAST_TEMPLATE_ID, LATE, LOW, OPTIONS,
+    OPTIONS_LIFETIME, PEN, RING, SLOTS, STOP_AFTER, TEMPLATE_LIFETIME, VALUE,
+};
+use setting_tables::{items_at, text_at, text_found};
 use std::alloc::{AllocError, Global};
 use toml::{Table, Value};
 

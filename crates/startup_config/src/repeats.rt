@@ -7,12 +7,12 @@ ghost use Rattle.config_spec.specs.Repeats.{repeat_fault, plain, names_of, paths
 ghost use Rattle.startup_config.specs.Named.{inputs_named, stages_named, outputs_named, outputs_written};
 
 use crate::made::{FromTable, tables_at};
-use crate::tree::text_at;
 use crate::values::prefix_at;
 use col_base::{Octets, Text};
 use config_spec::{
     Conf, ConfFault, InputConf, Key, Listed, Marked, OutputConf, Prefix, StageConf, Version,
 };
+use setting_tables::text_at;
 use std::alloc::{AllocError, Global};
 use std::collections::BTreeSet;
 use toml::{Table, Value};

@@ -4,16 +4,12 @@ ghost use Rattle.toml.specs.View.{table_view};
 ghost use Rattle.config_spec.specs.Domains.{domains};
 ghost use Rattle.config_spec.specs.Values.{default_of, integer_at, number_within, most_of, number_of, flag_default, flag_of, keeps, prefix_at, address_at, ranges_in, domain_set, domains_of, kind_at};
 
-use crate::address::{address, prefix};
-use crate::domain_text::domains;
-use crate::fits::least_at;
-use crate::tables::kind_named;
-use crate::tree::{text_at, text_found, value_at};
-use crate::words::{choice_of, kinds_of};
 use col_base::Octets;
 use config_spec::{
     Choice, DomainSet, Key, KeyRow, Need, Prefix, Ranges, Shape, TableKind, TableSort, Version,
 };
+use setting_tables::{choice_of, kind_named, kinds_of, least_at, text_at, text_found, value_at};
+use setting_texts::{address, domains, prefix};
 use std::alloc::{AllocError, Global};
 use toml::Table;
 

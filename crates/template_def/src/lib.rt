@@ -15,6 +15,3 @@ pub use checks::well_formed;
 pub use definition::Definition;
 pub use equality::equal_definitions_are_one;
 pub use wire_spec::FieldSpec;
-
-#[cfg(test)]
-mod tests;

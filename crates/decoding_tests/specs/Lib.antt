@@ -1,0 +1,2 @@
+pub mod DefinedIds
+pub mod Shown

@@ -1,5 +1,0 @@
-use Rattle.std.proofs.Common.{◌≡◌, ◌∷◌, ◌++◌, length, take}
-use Rattle.record_iter.proofs.tests.push_value.Given as goal
-
-abbrev pub invariant-loop-octet : goal.invariant-loop-octet
-invariant-loop-octet l = l.rows.items ≡ l.fn.rows.items ++ (l.fn.field.at ∷ length l.fn.field.value.now ∷ take l.octet-index l.octet-items)

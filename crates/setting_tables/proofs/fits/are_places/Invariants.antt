@@ -1,0 +1,8 @@
+use Rattle.std.proofs.Common.{◌≡◌, drop, map}
+use Rattle.std.specs.List.{list_all}
+use Rattle.toml.specs.View.{view}
+use Rattle.config_spec.specs.Fits.{is_place_item}
+use Rattle.setting_tables.proofs.fits.are_places.Given as goal
+
+abbrev pub invariant-loop-item : goal.invariant-loop-item
+invariant-loop-item l = list_all is_place_item (map view l.items) ≡ list_all is_place_item (map view (drop l.item-index l.items))

@@ -1,6 +1,0 @@
-use Rattle.std.proofs.lemmas.Str.Pattern.{split_once_first}
-use Rattle.startup_config.proofs.CutLemmas.{cut_once}
-use Rattle.startup_config.proofs.marks.cut.Goals as goal
-
-pub returns : goal.returns
-returns c = cut_once c.args.mark c.args.text.now c.split_once.result (split_once_first c.args.mark c.args.text.now c.split_once.result c.split_once.ensures.cases c.requires)

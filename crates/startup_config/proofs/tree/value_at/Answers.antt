@@ -1,5 +1,0 @@
-use Rattle.toml.proofs.Views.{table_get}
-use Rattle.startup_config.proofs.tree.value_at.Goals as goal
-
-pub returns : goal.returns
-returns c = rw (← c.word_of.ensures) (table_get c.get.result c.word_of.result.now c.args.table.now.entries c.get.ensures.value)
