@@ -140,8 +140,9 @@ data_planned domains domain id body old new definition well high found p =
 
 -- ---- sets
 
-no_templates : (id : ℕ) → (id ≡ 2 → ⊥) → (id ≡ 3 → ⊥) → kind_of id ≡ None
-no_templates id a b = rw (ne_eqb id 2 a, ne_eqb id 3 b) refl
+-- a data set has no template records
+pub no_templates : (id : ℕ) → 256 ≤ id → kind_of id ≡ None
+no_templates id high = rw (ne_eqb id 2 (λ e. omega arith), ne_eqb id 3 (λ e. omega arith)) refl
 
 -- a set of template records
 pub takes_templates : (raw : RawSet) (domain : ℕ) (old new : Domains) (plan : PlannedMessage) (touches : List Touch) → is_kept old domain ≡ true → RawSays raw (Touches touches) → AreTouched old domain touches new → TakesSet raw domain old new plan plan
@@ -156,11 +157,11 @@ takes_templates raw domain old new plan touches kept says t = record {
 }
 
 -- any other set
-pub takes_data : (raw : RawSet) (domain : ℕ) (domains : Domains) (old new : PlannedMessage) → is_kept domains domain ≡ true → (raw.id ≡ 2 → ⊥) → (raw.id ≡ 3 → ⊥) → PlansData domains domain raw.id raw.body.now old new
+pub takes_data : (raw : RawSet) (domain : ℕ) (domains : Domains) (old new : PlannedMessage) → is_kept domains domain ≡ true → kind_of raw.id ≡ None → PlansData domains domain raw.id raw.body.now old new
     → TakesSet raw domain domains domains old new
-takes_data raw domain domains old new kept two three p = record {
+takes_data raw domain domains old new kept none p = record {
   part = Body raw.id raw.body.now;
-  says = body_said raw (no_templates raw.id two three);
+  says = body_said raw none;
   kept = kept;
   stand = λ past time parts s. stand_body raw.id raw.body.now s;
   given = p.0;

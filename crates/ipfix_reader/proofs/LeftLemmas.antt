@@ -1,5 +1,5 @@
 -- What octets that are sets, or template records, begin with, and what follows.
-use Rattle.std.proofs.Common.{◌≡◌, ℕ, ◌<◌, false, List, [], ◌∷◌, ◌++◌, Some, length, take, drop, sym, ap, ◌∙◌, subst, arith, length-take-le, append_assoc}
+use Rattle.std.proofs.Common.{◌≡◌, ℕ, ◌+◌, ◌<◌, false, List, [], ◌∷◌, ◌++◌, Some, length, take, drop, refl, sym, ap, ◌∙◌, subst, arith, length-take-le, append_assoc, drop-drop}
 use Rattle.std.proofs.Props.{props}
 use Rattle.std.proofs.Math.Logic.{∥∥₁_elim}
 use Rattle.std.specs.List.{concat}
@@ -15,7 +15,8 @@ use Rattle.wire_spec.proofs.OptionLemmas.{some_or_none}
 use Rattle.wire_spec.proofs.NumberLemmas.{be16_at-append}
 use Rattle.wire_spec.proofs.RowLemmas.{row_rest}
 use Rattle.wire_spec.proofs.ApartLemmas.{Sized, sized_set, set_unbroken, set_same, set_whole, unbroken_whole, templates_apart}
-use Rattle.ipfix_reader.specs.Walk.{IsSomeMessage, AreSomeSets, AreSomeTemplates, IsSized}
+use Rattle.ipfix_reader.specs.declared.raw.RawSet.{RawSet}
+use Rattle.ipfix_reader.specs.Walk.{IsSomeMessage, AreSomeSets, AreSomeTemplates, IsSized, IsRawSet, GivesSetOf}
 
 -- the first of the sets, and a row of the others
 pub record FirstSet (o : List ℕ) (sets : List (List ℕ)) : Type 0 where
@@ -59,6 +60,17 @@ set_sized o s =
     let l : length a ≡ set_size o = length-take-le (set_size o) o s.inside in
     let size : set_size o ≡ set_size a = sym (ap set_size (take-append-drop (set_size o) o)) ∙ be16_at-append 2 a x (omega arith) in
     record { unbroken = set_unbroken a (record { head = omega arith; least = omega arith; inside = omega arith }); whole = sym size ∙ sym l }
+
+-- What a step over the sets gives, which stands at its place.
+pub set_given : (message : List ℕ) (at : ℕ) (rest set : List ℕ) (raw : RawSet) → rest ≡ drop at message → set ≡ take (length set) rest → IsRawSet raw at set
+    → GivesSetOf message at (drop at message) (Some raw) (at + length set) (drop (at + length set) message)
+set_given message at rest set raw left first is =
+    let front : take (length set) (drop at message) ≡ set = sym (first ∙ ap (take (length set)) left) in
+    let joined : drop at message ≡ set ++ drop (at + length set) message =
+        sym (take-append-drop (length set) (drop at message)) ∙ (ap (λ x. x ++ drop (length set) (drop at message)) front ∙ ap (λ x. set ++ x) (drop-drop (length set) at message)) in (
+      (set, joined, is, refl),
+      (set, subst (λ (p : ℕ). IsRawSet raw p set) (sym is.at) is, ap (λ p. take (length set) (drop p message)) is.at ∙ front),
+    )
 
 -- the sets of a message
 pub message_sets : (o : List ℕ) → ∥ IsSomeMessage o ∥₁ → ∥ AreSomeSets (drop 16 o) ∥₁

@@ -1,14 +1,15 @@
 -- The specifiers of a template record.
-use Rattle.std.proofs.Common.{◌≡◌, ℕ, zero, suc, ◌+◌, ◌-◌, ◌<◌, ◌≤◌, true, List, [], length, drop, refl, ap, ◌∙◌, arith, length-drop}
-use Rattle.std.specs.Prelude.{◌==◌, if◌then◌else◌}
-use Rattle.std.proofs.lemmas.Bool.{ne_eqb, not_from_false}
+use Rattle.std.proofs.Common.{◌≡◌, ℕ, zero, suc, ◌+◌, ◌-◌, ◌<◌, ◌≤◌, inl, inr, true, ◌||◌, not, List, [], length, drop, refl, ap, sym, subst, ◌∙◌, arith, length-drop}
+use Rattle.std.specs.Prelude.{nat_lt, ◌==◌, if◌then◌else◌}
+use Rattle.std.proofs.lemmas.Bool.{ne_eqb, not_from_false, not-false, and_cases, or_parts, ltb-false, eqb-true}
 use Rattle.col_base.specs.declared.base.Kind.{Kind}
 use Rattle.col_base.specs.declared.base.Kind.TheVariants.{Template, Options}
 use Rattle.col_base.specs.Numbers.{be16_at}
-use Rattle.wire_spec.specs.Message.{IsTemplateRecord, specifier_size, specifiers_size, shortest_of_specifiers, least_of, defines, front, has_scope}
+use Rattle.wire_spec.specs.Message.{IsTemplateRecord, specifier_size, specifiers_size, shortest_of_specifiers, least_of, defines, front, has_scope, set_id, template_rules}
 use Rattle.wire_spec.specs.Content.{scope_of}
+use Rattle.wire_spec.specs.WellFormed.{HasScope}
 use Rattle.wire_spec.proofs.TemplateLemmas.{sized}
-use Rattle.wire_spec.proofs.DefinitionLemmas.{fields_count, shortest_of_fields, well_formed}
+use Rattle.wire_spec.proofs.DefinitionLemmas.{each_kept, fields_count, shortest_of_fields, well_formed}
 use Rattle.ipfix_reader.specs.Specifiers.{AreSpecifiers}
 
 -- one specifier further
@@ -41,3 +42,19 @@ specifiers_kept kind o specs scope count r le s c e ne =
     let some = w.shortest in
     let fields = w.fields in
     rw (octets, c, k) (record { define = record { whole = omega arith; some = omega arith; within = omega arith; shortest = omega arith }; short = omega arith })
+
+-- The scope fields of a definition are as many as its kind has.
+pub scope_kept : (kind : Kind) (o : List ℕ) (scope count : ℕ) → IsTemplateRecord kind o → scope ≡ (if has_scope kind o then be16_at 4 o else 0) → count ≡ be16_at 2 o → (count ≡ 0 → ⊥) → HasScope kind scope
+scope_kept kind o scope count r s c ne =
+    let d : defines o ≡ true = not_from_false (be16_at 2 o == 0) (ne_eqb (be16_at 2 o) 0 (λ z. ne (c ∙ z))) in
+    subst (HasScope kind) (sym (right_scope kind o scope s d)) (well_formed kind o r d).scope
+
+-- Where the ID of a template record is below 256, it withdraws all templates of its kind.
+pub low_id : (kind : Kind) (o : List ℕ) → IsTemplateRecord kind o → be16_at 0 o < 256 → (be16_at 2 o ≡ 0) × (be16_at 0 o ≡ set_id kind)
+low_id kind o r low =
+    elim (and_cases (nat_lt (be16_at 0 o) 256) (defines o || not (be16_at 0 o == set_id kind)) (each_kept (template_rules kind) o r.unbroken).0) [
+      | inl f ↦ absurd (let high = ltb-false (be16_at 0 o) 256 f in omega arith)
+      | inr f ↦
+          (let p = or_parts (defines o) (not (be16_at 0 o == set_id kind)) f in
+          (eqb-true (be16_at 2 o) 0 (not-false (be16_at 2 o == 0) p.0), eqb-true (be16_at 0 o) (set_id kind) (not-false (be16_at 0 o == set_id kind) p.1)))
+    ]

@@ -1,17 +1,19 @@
 -- What a whole walk over a message adds up to: `Says`. A loop over `template_records(set)` keeps `HaveTouched`,
 -- a loop over `message.sets()` keeps `HaveSaid`: both begin with nothing said, and go on by one step.
-use Rattle.std.proofs.Common.{◌≡◌, ℕ, inl, inr, true, false, List, [], ◌∷◌, ◌++◌, Some, None, map, drop, refl, ap, sym, subst, ◌∙◌}
+use Rattle.std.proofs.Common.{◌≡◌, ℕ, ◌≤◌, ◌⊎◌, inl, inr, true, false, List, [], ◌∷◌, ◌++◌, Some, None, length, map, drop, refl, ap, sym, subst, ◌∙◌, arith, length-append, length-drop}
 use Rattle.std.specs.Prelude.{Option, ◌==◌}
 use Rattle.std.specs.List.{concat}
 use Rattle.std.proofs.Props.{props}
 use Rattle.std.proofs.Math.Logic.{∥∥₁_elim}
-use Rattle.std.proofs.lemmas.Bool.{cases_Bool, not-true, not-false, ne_eqb}
-use Rattle.std.proofs.lemmas.List.{map-append}
+use Rattle.std.proofs.lemmas.Bool.{cases_Bool, not-true, not-false, ne_eqb, eqb-true}
+use Rattle.std.proofs.lemmas.List.{map-append, take_all}
 use Rattle.col_base.specs.declared.base.Kind.{Kind}
 use Rattle.col_base.specs.Numbers.{be16_at}
 use Rattle.wire_spec.specs.Message.{IsSet, IsBody, IsTemplateRecord, kind_of, defines, front, first_broken, header_rules}
+use Rattle.wire_spec.specs.Places.{set_place}
 use Rattle.wire_spec.specs.Content.{Touch, Part, Says, SaysPart, SayParts, touch_of}
 use Rattle.wire_spec.specs.Content.Part.{Touches, Body}
+use Rattle.wire_spec.proofs.OptionLemmas.{some_or_none}
 use Rattle.wire_spec.proofs.RowLemmas.{items_more, concat_more}
 use Rattle.ipfix_reader.proofs.SpecifierLemmas.{right_scope}
 use Rattle.ipfix_reader.specs.declared.raw.RawSet.{RawSet}
@@ -62,6 +64,17 @@ touched_all {raw} {kind} {old} {touches} next new h g =
 pub no_kind : (id : ℕ) → (id ≡ 2 → ⊥) → (id ≡ 3 → ⊥) → kind_of id ≡ None
 no_kind id a b = rw (ne_eqb id 2 a, ne_eqb id 3 b) refl
 
+-- Only those have template records.
+pub kind_ids : (id : ℕ) (kind : Kind) → kind_of id ≡ Some kind → (id ≡ 2) ⊎ (id ≡ 3)
+kind_ids id kind e =
+    elim (cases_Bool (id == 2)) [
+      | inl t ↦ inl (eqb-true id 2 t)
+      | inr t ↦ elim (cases_Bool (id == 3)) [
+        | inl u ↦ inr (eqb-true id 3 u)
+        | inr u ↦ absurd (let none : kind_of id ≡ None = rw (t, u) refl in some_or_none (kind_of id) kind e none)
+      ]
+    ]
+
 -- A set without template records says its body.
 pub body_said : (raw : RawSet) → kind_of raw.id ≡ None → RawSays raw (Body raw.id raw.body.now)
 body_said raw k = rw k refl
@@ -100,6 +113,15 @@ said_more {octets} {old} {at} {parts} new to raw part h g p =
       whole = h.whole ∙ (ap (λ r. concat h.sets ++ r) g.1 ∙ concat_more h.sets g.0 new);
       say = parts_more h.sets g.0 parts part h.say said;
     }
+
+-- The sets that are left of a message begin behind those that were walked over: the next stands at this place.
+pub said_place : {octets rest : List ℕ} {parts : List Part} (at : ℕ) (h : HaveSaid octets rest parts) → rest ≡ drop at octets → 16 ≤ at → at ≤ length octets → at ≡ set_place h.sets (length h.sets)
+said_place {octets} {rest} {parts} at h left front inside =
+    let w = ap length h.whole ∙ length-append (concat h.sets) rest in
+    let o = length-drop 16 octets in
+    let l = ap length left ∙ length-drop at octets in
+    let all = ap (λ s. length (concat s)) (take_all (length h.sets) h.sets (omega arith)) in
+    omega arith
 
 unbroken-prop : (o : List ℕ) → IsProp (first_broken header_rules o ≡ None)
 unbroken-prop o = hlevel props

@@ -3,3 +3,4 @@ pub mod Walk
 pub mod Octets
 pub mod Left
 pub mod DefinedIds
+pub mod Cases

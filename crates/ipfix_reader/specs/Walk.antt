@@ -1,10 +1,11 @@
 -- What a step over the sets of a message, and over the template records of a set, gives, and what is said so
 -- far (RFC 7011, sections 3.3, 3.4 and 8.1).
-use Rattle.std.specs.Prelude.{ℕ, ◌≡◌, ◌+◌, ◌==◌, if◌then◌else◌, nat_lt, List, [], ◌++◌, Option, Some, None, drop, map, length}
+use Rattle.std.specs.Prelude.{ℕ, ◌≡◌, ◌+◌, ◌==◌, if◌then◌else◌, nat_lt, List, [], ◌++◌, Option, Some, None, IfSome, drop, map, length}
 use Rattle.std.specs.List.{AllByRecursion, concat}
 use Rattle.col_base.specs.declared.base.Kind.{Kind}
 use Rattle.col_base.specs.Numbers.{be16_at, be32_at}
 use Rattle.wire_spec.specs.Rows.{IsRow}
+use Rattle.wire_spec.specs.Places.{StandsAt}
 use Rattle.wire_spec.specs.Message.{IsMessage, IsSet, IsNothing, IsBody, IsPadding, IsTemplateRecord, front, defines, has_scope, set_size, set_rules, first_broken, kind_of}
 use Rattle.wire_spec.specs.Content.{Touch, Part, Message, SayParts, touch_of, fields_of}
 use Rattle.wire_spec.specs.Content.Touch.{Define, Withdraw, WithdrawAll}
@@ -37,6 +38,14 @@ pub record IsRawSet (raw : RawSet) (place : ℕ) (set : List ℕ) : Type 0 where
 abbrev pub GivesSet : ℕ → List ℕ → Option RawSet → ℕ → List ℕ → Type 0
 GivesSet at old None to new = (old ≡ []) × (new ≡ []) × (to ≡ at)
 GivesSet at old (Some raw) to new = (set : List ℕ) × (old ≡ set ++ new) × IsRawSet raw at set × (to ≡ at + length set)
+
+-- a raw set is one that stands at its place in the message
+abbrev pub StandsIn : List ℕ → RawSet → Type 0
+StandsIn message raw = (set : List ℕ) × IsRawSet raw raw.at set × StandsAt message raw.at set
+
+-- a step gives the first set, which stands at its place in the message, or shows that none is left
+abbrev pub GivesSetOf : List ℕ → ℕ → List ℕ → Option RawSet → ℕ → List ℕ → Type 0
+GivesSetOf message at old raw to new = GivesSet at old raw to new × IfSome raw (StandsIn message)
 
 -- a raw template is this template record
 pub record IsRawTemplate (raw : RawTemplate) (kind : Kind) (octets : List ℕ) : Type 0 where

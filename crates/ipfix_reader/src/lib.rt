@@ -19,7 +19,7 @@ mod template_walk;
 
 pub use checks::check;
 pub use message::{Header, Message, template_records};
-pub use raw::{RawSet, RawTemplate};
+pub use raw::{RawDefinition, RawSet, RawTemplate, RawTouch, SetContent};
 pub use set_walk::Sets;
 pub use template_walk::TemplateRecords;
 pub use wire_spec::{Malformed, MalformedKind};

@@ -3,7 +3,7 @@ ghost use Rattle.std.specs.Prelude.{◌≡◌, ◌≤◌, ◌<◌, ◌+◌, ◌^
 ghost use Rattle.col_base.specs.Numbers.{be16_at, be32_at};
 ghost use Rattle.wire_spec.specs.Message.{kind_of};
 ghost use Rattle.ipfix_reader.specs.Walk.{IsSomeMessage};
-ghost use Rattle.ipfix_reader.specs.Left.{sets_left, place_of, templates_left, kind_left};
+ghost use Rattle.ipfix_reader.specs.Left.{sets_left, place_of, message_walked, templates_left, kind_left};
 
 use crate::raw::RawSet;
 use crate::set_walk::Sets;
@@ -21,7 +21,7 @@ pub struct Message<'a> {
 
 /// The header of a message (RFC 7011, section 3.1): its octets with the header, the Export Time in seconds
 /// since 1970, the Sequence Number, and the Observation Domain ID.
-#[derive(Clone, Copy, Debug, PartialEq, Eq)]
+#[derive(Clone, Copy, Debug, PartialEq, Eq, PartialOrd, Ord, Hash)]
 pub struct Header {
     pub length: u16,
     pub export: u32,
@@ -67,10 +67,11 @@ impl<'a> Message<'a> {
 
     /// Goes over the sets, from octet 16 on.
     pub fn sets(&self) -> Sets<'a>
+        ensures message { message_walked result ≡ octets_of self.now }
         ensures at { place_of result ≡ 16 }
         ensures rest { sets_left result ≡ drop 16 (octets_of self.now) }
     {
-        Sets::new(sets_of(self.octets), MESSAGE_HEADER as u32)
+        Sets::new(self.octets)
     }
 }
 

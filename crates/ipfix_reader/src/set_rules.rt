@@ -14,7 +14,7 @@ use wire_spec::{Malformed, MalformedKind};
 pub struct SetsInMessage;
 
 /// The kind of the template records in sets of an ID. None exactly where they have none.
-fn kind_of(id: u16) -> Option<Kind>
+pub fn kind_of(id: u16) -> Option<Kind>
     ensures { result ≡ kind_of id }
 {
     match id {
