@@ -6,7 +6,7 @@ pub mod DirectLemmas
 pub mod LeavesLemmas
 pub mod ReportLemmas
 pub mod DottedLemmas
-pub mod TemplateTableLemmas
+pub mod TemplateRecordsLemmas
 pub mod SessionTemplatesLemmas
 pub mod PlanLemmas
 pub mod PieceLemmas

@@ -1,7 +1,7 @@
 pub mod Reading
 pub mod Printed
 pub mod Built
-pub mod TemplateTable
+pub mod TemplateRecords
 pub mod DomainTemplates
 pub mod SessionTemplates
 pub mod Session

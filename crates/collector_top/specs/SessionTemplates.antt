@@ -9,7 +9,7 @@ use Rattle.template_spec.specs.Valid.{touched, last_touched}
 use Rattle.arrival_spec.specs.Settings.{Settings}
 use Rattle.run_spec.specs.Touches.{dated, touches_before}
 use Rattle.run_spec.specs.Domains.{is_among, kept_domains, with_domain}
-use Rattle.collector_top.specs.declared.templates.Templates.{Templates}
+use Rattle.collector_top.specs.declared.domain_templates.DomainTemplates.{DomainTemplates}
 use Rattle.collector_top.specs.declared.domains.Domains.{Domains}
 use Rattle.collector_top.specs.DomainTemplates.{definition_of}
 
@@ -25,7 +25,7 @@ is_kept domains domain = is_some (get nat_cmp domains.rows domain)
 abbrev pub count_kept : Domains → ℕ
 count_kept domains = btree_map_len domains.rows
 
-abbrev pub definition_by : Option Templates → ℕ → Option Definition
+abbrev pub definition_by : Option DomainTemplates → ℕ → Option Definition
 definition_by None id = None
 definition_by (Some templates) id = definition_of templates id
 

@@ -5,7 +5,7 @@ ghost use Rattle.collector_top.specs.Session.{HasRecords, HasNoRecords, PlansRec
 use crate::domains::Domains;
 use crate::planned::{PlannedMessage, PlannedSet};
 use crate::printed::is_printed;
-use ipfix_reader::RawSet;
+use ipfix_reader::{Header, RawSet};
 use record_iter::records;
 use std::alloc::AllocError;
 use std::sync::Arc;
@@ -44,18 +44,18 @@ fn plan_records<'a>(
     Ok(())
 }
 
-/// Plans a data set by the templates of its domain. It is passed over where it has no valid definition, and where its
+/// Plans a data set of a message with this header by the templates of its domain. It is passed over where it has no valid definition, and where its
 /// body isn't records of it, at least one.
 pub fn plan_data<'a>(
     set: RawSet<'a>,
-    domain: u32,
+    header: Header,
     domains: &Domains,
     plan: &mut PlannedMessage<'a>,
 ) -> Result<(), AllocError>
     requires { 256 ≤ set.id }
-    ensures { OnOk result (PlansData domains.now domain set.entry.id set.entry.body.now plan.old plan.new) }
+    ensures { OnOk result (PlansData domains.now header.domain set.entry.id set.entry.body.now plan.old plan.new) }
 {
-    let Some(definition) = domains.find(domain, set.id) else {
+    let Some(definition) = domains.find(header, set.id) else {
         return Ok(());
     };
     if !has_records(definition, set.body) {

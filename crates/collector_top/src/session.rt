@@ -8,41 +8,41 @@ use crate::data::plan_data;
 use crate::domains::Domains;
 use crate::planned::PlannedMessage;
 use col_base::{Octets, WantOfMemory};
-use ipfix_reader::{Message, RawSet, SetContent, check};
+use ipfix_reader::{Header, Message, RawSet, SetContent, check};
 use std::alloc::Global;
 
-/// Takes a set of a message: its template records count from now on, and its data records are planned.
+/// Takes a set of a message with this header: its template records count from now on, and its data records are planned.
 fn take_set<'a>(
     alloc: Global,
     set: RawSet<'a>,
-    domain: u32,
+    header: Header,
     domains: &mut Domains,
     plan: &mut PlannedMessage<'a>,
 ) -> Result<(), WantOfMemory>
-    requires { is_kept domains.old domain ≡ true }
-    ensures { OnOk result (TakesSet set.entry domain domains.old domains.new plan.old plan.new) }
+    requires { is_kept domains.old header.domain ≡ true }
+    ensures { OnOk result (TakesSet set.entry header.domain domains.old domains.new plan.old plan.new) }
 {
     match set.content() {
-        SetContent::Templates(_) => domains.take_set(alloc, domain, set)?,
-        SetContent::Data(_) => plan_data(set, domain, domains, plan)?,
+        SetContent::Templates(_) => domains.take_set(alloc, header, set)?,
+        SetContent::Data(_) => plan_data(set, header, domains, plan)?,
         SetContent::Reserved => {}
     }
     Ok(())
 }
 
-/// Takes the sets of a message of a domain that is kept.
+/// Takes the sets of a message with this header, whose domain is kept.
 fn take_sets<'a>(
     alloc: Global,
     message: Message<'a>,
-    domain: u32,
+    header: Header,
     domains: &mut Domains,
 ) -> Result<PlannedMessage<'a>, WantOfMemory>
-    requires { is_kept domains.old domain ≡ true }
-    ensures { IfOk result (λ plan. PlansMessage message.entry.octets.now domain domains.old domains.new plan) }
+    requires { is_kept domains.old header.domain ≡ true }
+    ensures { IfOk result (λ plan. PlansMessage message.entry.octets.now header.domain domains.old domains.new plan) }
 {
     let mut plan = no_sets(alloc);
     for set in message.sets() {
-        take_set(alloc, set, domain, domains, &mut plan)?;
+        take_set(alloc, set, header, domains, &mut plan)?;
     }
     Ok(plan)
 }
@@ -67,11 +67,11 @@ fn take_message<'a>(
     requires { IsSomeMessage message.octets.now }
     ensures { IfOk result (λ plan. PlansNext message.entry.octets.now domains.old domains.new plan) }
 {
-    let domain = message.header().domain;
-    if !domains.admit(alloc, domain)? {
+    let header = message.header();
+    if !domains.admit(alloc, header)? {
         return Ok(no_sets(alloc));
     }
-    let plan = take_sets(alloc, message, domain, domains)?;
+    let plan = take_sets(alloc, message, header, domains)?;
     Ok(plan)
 }
 

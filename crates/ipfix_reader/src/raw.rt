@@ -10,7 +10,7 @@ use wire_spec::numbers::LEAST_TEMPLATE_ID;
 
 /// A set as it stands in its message (RFC 7011, section 3.3): its ID, the octet of the message at which it
 /// begins, and its octets behind the header of four.
-#[derive(Clone, Copy, Debug, PartialEq, Eq)]
+#[derive(Clone, Copy)]
 pub struct RawSet<'a> {
     pub id: u16,
     pub at: u32,
@@ -20,7 +20,7 @@ pub struct RawSet<'a> {
 }
 
 /// What a set has, which its ID says (RFC 7011, section 3.3.2).
-#[derive(Clone, Copy, Debug, PartialEq, Eq)]
+#[derive(Clone, Copy)]
 pub enum SetContent {
     /// Template records of a kind: the ID is 2 or 3.
     Templates(Kind),
@@ -66,7 +66,7 @@ pub struct RawTemplate<'a> {
 }
 
 /// A definition as it stands in its template record (RFC 7011, sections 3.4.1 and 3.4.2).
-#[derive(Clone, Copy, Debug, PartialEq, Eq)]
+#[derive(Clone, Copy)]
 pub struct RawDefinition<'a> {
     pub kind: Kind,
     /// The ID that it defines, from 256 on.
@@ -83,7 +83,7 @@ pub struct RawDefinition<'a> {
 }
 
 /// What a template record does to the templates of its domain (RFC 7011, sections 3.4 and 8.1).
-#[derive(Clone, Copy, Debug, PartialEq, Eq)]
+#[derive(Clone, Copy)]
 pub enum RawTouch<'a> {
     /// It defines an ID.
     Define(RawDefinition<'a>),

@@ -12,10 +12,10 @@ loop-set-init c =
 
 pub loop-set-preserved : goal.loop-set-preserved
 loop-set-preserved c =
-    planned_more c.args.message.octets.now (sets_left c.loop-set.set-iterator) (sets_left c.next.new.self) c.loop-set.set-iterator.at c.next.new.self.at c.args.domain c.in-Some.set c.args.domains.now c.loop-set.domains c.take_set.new.domains
+    planned_more c.args.message.octets.now (sets_left c.loop-set.set-iterator) (sets_left c.next.new.self) c.loop-set.set-iterator.at c.next.new.self.at c.args.header.domain c.in-Some.set c.args.domains.now c.loop-set.domains c.take_set.new.domains
     c.loop-set.plan c.take_set.new.plan c.loop-set.invariant c.in-Some.ensures.steps.0.0 c.in_ok-take_set.ensures
 
 pub returns : goal.returns
 returns c =
-    planned_all c.args.message.octets.now (sets_left c.loop-set.set-iterator) (sets_left c.next.new.self) c.loop-set.set-iterator.at c.next.new.self.at c.args.domain c.args.domains.now c.loop-set.domains c.loop-set.plan c.args.message.whole
+    planned_all c.args.message.octets.now (sets_left c.loop-set.set-iterator) (sets_left c.next.new.self) c.loop-set.set-iterator.at c.next.new.self.at c.args.header.domain c.args.domains.now c.loop-set.domains c.loop-set.plan c.args.message.whole
     c.loop-set.invariant c.in-None.ensures.steps.0.0

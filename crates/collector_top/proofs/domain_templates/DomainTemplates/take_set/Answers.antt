@@ -3,8 +3,8 @@ use Rattle.ipfix_reader.specs.Left.{kind_left, templates_left}
 use Rattle.ipfix_reader.specs.Walk.{touch_by}
 use Rattle.ipfix_reader.proofs.WalkLemmas.{touched_more}
 use Rattle.collector_top.specs.DomainTemplates.{definition_of}
-use Rattle.collector_top.proofs.TemplateTableLemmas.{one_touch_later}
-use Rattle.collector_top.proofs.templates.Templates.take_set.Goals as goal
+use Rattle.collector_top.proofs.TemplateRecordsLemmas.{one_touch_later}
+use Rattle.collector_top.proofs.domain_templates.DomainTemplates.take_set.Goals as goal
 
 pub loop-raw-preserved : goal.loop-raw-preserved
 loop-raw-preserved c =

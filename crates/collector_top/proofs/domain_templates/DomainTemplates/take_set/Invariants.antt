@@ -5,7 +5,7 @@ use Rattle.template_spec.specs.Valid.{touched}
 use Rattle.ipfix_reader.specs.Left.{kind_left, templates_left}
 use Rattle.ipfix_reader.specs.Walk.{HaveTouched}
 use Rattle.collector_top.specs.DomainTemplates.{definition_of}
-use Rattle.collector_top.proofs.templates.Templates.take_set.Given as goal
+use Rattle.collector_top.proofs.domain_templates.DomainTemplates.take_set.Given as goal
 
 abbrev pub invariant-loop-raw : goal.invariant-loop-raw
 invariant-loop-raw l = (touches : List Touch) × HaveTouched l.fn.set (kind_left l.raw-iterator) (templates_left l.raw-iterator) touches
