@@ -1,0 +1,54 @@
+-- The rows of octets, and what is left of a row that was put into the room.
+use Rattle.std.proofs.Common.{◌≡◌, ℕ, zero, suc, ◌+◌, ◌*◌, ◌<◌, ◌≤◌, inl, inr, Bool, true, ◌&&◌, List, [], ◌∷◌, ◌++◌, length, take, drop, refl, ap, sym, ◌∙◌, arith}
+use Rattle.std.specs.Str.{bytes_eq}
+use Rattle.std.proofs.Math.Seq.{take-append-add, take-append_seam}
+use Rattle.std.proofs.lemmas.List.{take-take, length-take-le}
+use Rattle.std.proofs.lemmas.Slice.Eq.{bytes_eq-Decides}
+use Rattle.std.proofs.lemmas.Bool.{and_parts}
+use Rattle.value_text.specs.declared.dotted.TheConstants.{ROWS}
+use Rattle.value_text.specs.Dotted.{octet_digits, marked}
+use Rattle.value_text.proofs.DottedLemmas.{below_or_last, at_most_three}
+
+-- the front of a piece
+pub cut : (at k m : ℕ) (old new piece : List ℕ) → at ≤ length old → k ≤ m → take (at + m) new ≡ take at old ++ piece → take (at + k) new ≡ take at old ++ take k piece
+cut at k m old new piece le less e =
+    let first : take (at + k) new ≡ take (at + k) (take at old ++ piece) = sym (take-take (at + k) (at + m) new (omega (arith, less))) ∙ ap (λ l. take (at + k) l) e in
+    let place : at + k ≡ length (take at old) + k = ap (λ n. n + k) (sym (length-take-le at old le)) in
+    first ∙ ap (λ n. take n (take at old ++ piece)) place ∙ take-append-add (take at old) piece k
+
+-- the row of an octet
+abbrev pub row : ℕ → List ℕ
+row n = take 4 (drop (4 * n) ROWS)
+
+-- so many numbers have their digits and a dot in their rows
+have_rows : ℕ → Bool
+have_rows zero = true
+have_rows (suc n) = bytes_eq (take (length (octet_digits n) + 1) (row n)) (marked n 46) && have_rows n
+
+octets_have_rows : have_rows 256 ≡ true
+unfolding have_rows
+octets_have_rows = refl
+
+each_has_row : (k n : ℕ) → have_rows k ≡ true → n < k → take (length (octet_digits n) + 1) (row n) ≡ marked n 46
+unfolding have_rows
+each_has_row zero n all lt = absurd (omega arith)
+each_has_row (suc k) n all lt =
+    let parts = and_parts _ _ all in
+    elim (below_or_last n k lt) [
+      | inl e ↦ (bytes_eq-Decides (take (length (octet_digits n) + 1) (row n)) (marked n 46)).0 (ap (λ m. bytes_eq (take (length (octet_digits m) + 1) (row m)) (marked m 46)) e ∙ parts.0)
+      | inr l ↦ each_has_row k n parts.1 l
+    ]
+
+-- the row of an octet begins with its digits and a dot
+pub row_dotted : (n at : ℕ) (old new : List ℕ) → n < 256 → at ≤ length old → take (at + 4) new ≡ take at old ++ row n → take (at + length (octet_digits n) + 1) new ≡ take at old ++ marked n 46
+row_dotted n at old new lt le e =
+    let k = length (octet_digits n) in
+    let whole : take (at + (k + 1)) new ≡ take at old ++ take (k + 1) (row n) = cut at (k + 1) 4 old new (row n) le (omega (arith, at_most_three n)) e in
+    let place : at + k + 1 ≡ at + (k + 1) = omega arith in
+    ap (λ m. take m new) place ∙ whole ∙ ap (λ l. take at old ++ l) (each_has_row 256 n octets_have_rows lt)
+
+pub row_digits : (n at : ℕ) (old new : List ℕ) → n < 256 → at ≤ length old → take (at + 4) new ≡ take at old ++ row n → take (at + length (octet_digits n)) new ≡ take at old ++ octet_digits n
+row_digits n at old new lt le e =
+    let k = length (octet_digits n) in
+    let whole : take (at + (k + 1)) new ≡ take at old ++ marked n 46 = ap (λ m. take m new) (let p : at + (k + 1) ≡ at + k + 1 = omega arith in p) ∙ row_dotted n at old new lt le e in
+    cut at k (k + 1) old new (marked n 46) le (omega arith) whole ∙ ap (λ l. take at old ++ l) (take-append_seam (octet_digits n) (46 ∷ []))
