@@ -1,18 +1,14 @@
 -- What the manager of a domain has after a template record, by some records that it stands for.
-use Rattle.std.proofs.Common.{◌≡◌, ℕ, List, [], ◌∷◌, ◌++◌, Some, None, length, ap, sym, subst, ◌∙◌}
+use Rattle.std.proofs.Common.{◌≡◌, ℕ, List, [], ◌∷◌, ◌++◌, Some, None, ap, sym, subst, ◌∙◌}
 use Rattle.std.specs.Prelude.{Option, Result, Ok, Err, OnOk, OnErr, fold}
 use Rattle.std.proofs.Math.Logic.{∥∥₁_elim}
 use Rattle.std.proofs.Props.{props}
 use Rattle.std.proofs.lemmas.List.Sums.{fold-append}
-use Rattle.col_base.specs.declared.base.Kind.{Kind}
 use Rattle.col_base.specs.declared.base.Transport.{Transport}
 use Rattle.col_base.specs.declared.base.Transport.TheVariants.{File}
-use Rattle.wire_spec.specs.Message.{specifiers_size}
 use Rattle.wire_spec.specs.Content.{Definition, Touch}
-use Rattle.wire_spec.specs.Specifiers.{defined_by}
-use Rattle.wire_spec.specs.WellFormed.{HasScope, IsWellFormed}
-use Rattle.wire_spec.proofs.SpecifierLemmas.{define_well}
-use Rattle.ipfix_reader.specs.Specifiers.{AreSpecifiers, scope_prop}
+use Rattle.wire_spec.specs.WellFormed.{IsWellFormed}
+use Rattle.ipfix_reader.specs.Specifiers.{scope_prop}
 use Rattle.template_spec.specs.Defined.{DefineWell, DefinesWell}
 use Rattle.template_spec.specs.Valid.{touched, last_touched, valid}
 use Rattle.template_spec.proofs.DefinedLemmas.{valid_well}
@@ -20,11 +16,6 @@ use Rattle.template_manager.specs.State.{State}
 use Rattle.template_manager.specs.Stands.{StandsBy, StandsFor}
 use Rattle.template_manager.specs.Table.{definition_in}
 use Rattle.collector_top.specs.TemplateRecords.{StandsForSome}
-
--- A definition that is read from the specifiers of a template record is well formed.
-pub read_well : (kind : Kind) (scope count : ℕ) (specs : List ℕ) (definition : Definition) → AreSpecifiers kind scope count specs → HasScope kind scope
-    → ((n : ℕ) → specifiers_size n specs ≡ length specs → definition ≡ defined_by kind scope n specs) → IsWellFormed definition
-read_well kind scope count specs definition s has is = subst IsWellFormed (sym (is count s.define.whole)) (define_well kind scope count specs s.define has)
 
 -- One touch later.
 pub one_touch_later : (start old new : ℕ → Option Definition) (touches : List Touch) (touch : Touch) → ((id : ℕ) → old id ≡ fold (touched id) (start id) touches)
