@@ -1,19 +1,12 @@
 // What a run leaves where memory is wanted.
 use col_base::{Octets, Text};
 use collector_top::collect_main;
+use sample_messages::ONE_FLOW;
 use site_io::{MemorySink, MemorySite, MemorySource, NamedSink, NamedSource, Scripted};
 use std::alloc::Global;
 use std::test::Fail;
 
-/// A template of two addresses and a count of octets, and one record.
-const ONE_FLOW: [u8; 52] = [
-    0x00, 0x0a, 0x00, 0x34, 0x00, 0x00, 0x00, 0x64, 0x00, 0x00, 0x00, 0x00, 0x00, 0x00, 0x00, 0x01,
-    0x00, 0x02, 0x00, 0x14, 0x01, 0x00, 0x00, 0x03, 0x00, 0x08, 0x00, 0x04, 0x00, 0x0c, 0x00, 0x04,
-    0x00, 0x01, 0x00, 0x04, 0x01, 0x00, 0x00, 0x10, 0x0a, 0x00, 0x00, 0x01, 0x0a, 0x00, 0x00, 0x02,
-    0x00, 0x00, 0x03, 0xe8,
-];
-
-/// The line of that record.
+/// The line of the flow.
 const FLOW: &str =
     "{\"@type\":\"ipfix.entry\",\"iana:sourceIPv4Address\":\"10.0.0.1\",\"iana:destinationIPv4Address\":\"10.0.0.2\",\"iana:octetDeltaCount\":1000}\n";
 
@@ -21,8 +14,8 @@ const FLOW: &str =
 fn site_of(alloc: Global) -> Result<MemorySite, Fail> {
     let mut script = Vec::new(alloc);
     script.push(Scripted::Opened(0))?;
-    script.push(Scripted::Bytes(0, Octets::from_slice(alloc, &ONE_FLOW)?))?;
-    script.push(Scripted::Bytes(0, Octets::from_slice(alloc, &ONE_FLOW)?))?;
+    script.push(Scripted::Bytes(0, Octets::from_slice(alloc, ONE_FLOW)?))?;
+    script.push(Scripted::Bytes(0, Octets::from_slice(alloc, ONE_FLOW)?))?;
     script.push(Scripted::Closed(0))?;
     let mut sources = Vec::new(alloc);
     sources.push(NamedSource {
