@@ -4,7 +4,7 @@ IPFIX Files.
 
 Run at the top of the repository: python3 tools/examples.py && (cd crates/wire_spec && rt fmt) &&
 (cd crates/sample_messages && rt fmt). With --compare nothing is written: it tells which files of examples/ and of the
-crates' data/ have other octets than the constant of their name.
+crates' data/, and which messages in their cases, have other octets than the constant of their name.
 """
 
 import glob
@@ -421,8 +421,16 @@ def constants():
     return {name.lower(): bytes.fromhex("".join(re.findall(r"\\x(..)", text))) for name, text in found}
 
 
+def pieces(path):
+    """The pieces of a file of cases that are octets, by their names in lower case."""
+    with open(path) as file:
+        found = re.findall(r"^piece (\w+) \|\n((?:  :[0-9a-f ]+\n)+)", file.read(), re.M)
+    return {name.lower(): bytes.fromhex(rows.replace(":", " ")) for name, rows in found}
+
+
 def differing():
-    """The files whose octets are not those of the constant of their name, and the constants without a file."""
+    """The files whose octets are not those of the constant of their name, and the constants without a file; the pieces
+    of cases that are named as a constant, and have other octets."""
     there = constants()
     files = glob.glob("examples/*.ipfix") + glob.glob("crates/*/data/*.ipfix")
     names = {path: os.path.basename(path).removesuffix(".ipfix") for path in files}
@@ -432,6 +440,10 @@ def differing():
                 yield path
     for name in sorted(set(MESSAGES) - {name for name in names.values() if name in there}):
         yield name
+    for path in sorted(glob.glob("crates/*/data/*.cases")):
+        for name, octets in pieces(path).items():
+            if name in there and octets != there[name]:
+                yield f"{name} in {path}"
 
 
 if __name__ == "__main__":
