@@ -2,3 +2,4 @@ pub mod FrontLemmas
 pub mod DottedLemmas
 pub mod RowLemmas
 pub mod ListLemmas
+pub mod DigitLemmas

@@ -1,3 +1,4 @@
 pub mod Front
 pub mod Dotted
 pub mod Groups
+pub mod Digits

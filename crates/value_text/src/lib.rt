@@ -5,6 +5,7 @@
 #![tactic(auto)]
 
 mod boolean;
+mod digits;
 mod dotted;
 mod groups;
 mod mac;
@@ -12,9 +13,13 @@ mod name;
 mod number;
 mod octet_text;
 mod piece;
+mod place;
 mod string;
 mod time;
 mod value;
 
+pub use digits::{place_u32, place_u64};
+pub use dotted::place_ipv4;
 pub use name::put_name;
+pub use place::{BLOCK, place_block, place_piece};
 pub use value::put_value;
