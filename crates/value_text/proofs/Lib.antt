@@ -1,4 +1,3 @@
-pub mod FrontLemmas
 pub mod DottedLemmas
 pub mod RowLemmas
 pub mod ListLemmas

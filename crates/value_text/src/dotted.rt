@@ -1,19 +1,12 @@
 // The text of an IPv4 address.
-ghost use Rattle.std.specs.Prelude.{◌≡◌, ◌≤◌, ◌<◌, ◌+◌, ◌*◌, ◌++◌, OnErr, OnOk, length, take, drop, decimal, unwrap_or};
+ghost use Rattle.std.specs.Prelude.{◌≡◌, ◌≤◌, ◌<◌, ◌+◌, ◌*◌, ◌++◌, length, take, drop, decimal, unwrap_or};
 ghost use Rattle.std.specs.List.{join_by};
 ghost use Rattle.text_spec.specs.Marks.{dot};
 ghost use Rattle.text_spec.specs.Value.{octet_text, ipv4_text, quoted};
 ghost use Rattle.value_text.specs.Dotted.{dotted, marked, octet_digits, row};
-ghost use Rattle.value_text.specs.Front.{GrowsByFront};
 
-use crate::octet_text::put_octets;
-use crate::piece::put_piece;
+use crate::octet_text::place_octets;
 use crate::place::{place_one, place_quad};
-use col_base::Octets;
-use std::alloc::AllocError;
-
-/// The octets of the room on the stack in which an address is put together: two quotes, and four rows.
-const ROOM: usize = 20;
 
 /// The digits of each octet and a dot, in rows of four octets.
 static ROWS: [u8; 1024] =
@@ -89,24 +82,14 @@ pub fn place_ipv4(value: &[u8], text: &mut [u8], at: usize) -> usize
     place_dotted(value[0], value[1], value[2], value[3], text, at)
 }
 
-/// Appends an address of four octets.
-fn put_four(value: &[u8], out: &mut Octets) -> Result<(), AllocError>
-    requires { length value.now ≡ 4 }
-    ensures ok { OnOk result (out.new ≡ out.old ++ quoted (join_by decimal dot value.now)) }
-    ensures err { OnErr result (GrowsByFront out.old out.new (quoted (join_by decimal dot value.now))) }
-{
-    let mut text = [0; ROOM];
-    let end = place_ipv4(value, &mut text, 0);
-    put_piece(&text[..end], out)
-}
-
-/// Appends an IPv4 address.
-pub fn put_ipv4(value: &[u8], out: &mut Octets) -> Result<(), AllocError>
-    ensures ok { OnOk result (out.new ≡ out.old ++ unwrap_or (ipv4_text value.now) (octet_text value.now)) }
-    ensures err { OnErr result (GrowsByFront out.old out.new (unwrap_or (ipv4_text value.now) (octet_text value.now))) }
+/// Puts an IPv4 address of any number of octets.
+pub fn place_dotted_or_octets(value: &[u8], text: &mut [u8], at: usize) -> usize
+    requires { at + 6 * length value.now + 64 ≤ length text.old }
+    ensures grown { take result text.new ≡ take at text.old ++ unwrap_or (ipv4_text value.now) (octet_text value.now) }
+    ensures near { result ≤ at + 6 * length value.now + 20 }
 {
     if value.len() != 4 {
-        return put_octets(value, out);
+        return place_octets(value, text, at);
     }
-    put_four(value, out)
+    place_ipv4(value, text, at)
 }

@@ -24,6 +24,17 @@ pub fn place_two(first: u8, second: u8, text: &mut [u8], at: usize)
     text[at + 1] = second;
 }
 
+/// Puts three octets.
+#[inline(always)]
+pub fn place_three(first: u8, second: u8, third: u8, text: &mut [u8], at: usize)
+    requires { at + 3 ≤ length text.old }
+    ensures { take (at + 3) text.new ≡ take at text.old ++ first ∷ second ∷ third ∷ [] }
+{
+    text[at] = first;
+    text[at + 1] = second;
+    text[at + 2] = third;
+}
+
 /// Puts four octets.
 #[inline(always)]
 pub fn place_quad(a: u8, b: u8, c: u8, d: u8, text: &mut [u8], at: usize)
