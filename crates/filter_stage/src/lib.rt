@@ -3,5 +3,8 @@
 
 mod check;
 mod plain;
+mod prepared;
+mod rule;
 
 pub use plain::keeps;
+pub use prepared::PreparedFilter;
