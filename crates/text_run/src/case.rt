@@ -1,4 +1,5 @@
 // A case: what a text is made of, and that text.
+use crate::listing::Listed;
 use col_base::{Octets, WantOfMemory};
 use element_table::{ElementType, Elements};
 use std::alloc::Global;
@@ -11,6 +12,8 @@ enum Given {
     Value(Option<ElementType>, Vec<u8>),
     /// An element by its enterprise number and its ID.
     Name(u32, u16),
+    /// A line of a listing, without the line feed at its end.
+    Line(Listed),
 }
 
 /// What a text is made of, and that text.
@@ -59,10 +62,32 @@ fn octets_of(alloc: Global, word: &str) -> Option<Vec<u8>> {
     hex::decode(alloc, word).ok()
 }
 
+/// Appends a line without the line feed at its end.
+fn put_line(
+    alloc: Global,
+    listed: &Listed,
+    elements: &Elements,
+    out: &mut Octets,
+) -> Result<(), WantOfMemory> {
+    listed.put(alloc, elements, out)?;
+    let end = out.as_slice().strip_suffix(b"\n").map(|line| line.len());
+    if let Some(end) = end {
+        out.truncate(end);
+    }
+    Ok(())
+}
+
 impl<'a> Case<'a> {
-    /// The case of a line, as `value TYPE OCTETS TEXT` or `name PEN ID TEXT`.
+    /// The case of a line, as `value TYPE OCTETS TEXT`, `name PEN ID TEXT`, or `view FORM WORD .. TEXT`.
     pub fn read(alloc: Global, line: &'a str) -> Option<Case<'a>> {
         let (form, rest) = line.split_once(' ')?;
+        if form == "view" {
+            let (listed, text) = Listed::read(alloc, rest)?;
+            return Some(Case {
+                given: Given::Line(listed),
+                text,
+            });
+        }
         let (first, rest) = rest.split_once(' ')?;
         let (second, text) = rest.split_once(' ')?;
         let given = match form {
@@ -79,10 +104,16 @@ impl<'a> Case<'a> {
     }
 
     /// Appends the text that is made.
-    pub fn put(&self, elements: &Elements, out: &mut Octets) -> Result<(), WantOfMemory> {
+    pub fn put(
+        &self,
+        alloc: Global,
+        elements: &Elements,
+        out: &mut Octets,
+    ) -> Result<(), WantOfMemory> {
         match &self.given {
             Given::Value(kind, octets) => put_value(*kind, octets, out),
             Given::Name(pen, id) => put_name(elements, *pen, *id, out),
+            Given::Line(listed) => put_line(alloc, listed, elements, out),
         }
     }
 }

@@ -3,6 +3,7 @@
 #![tactic(auto)]
 
 mod case;
+mod listing;
 
 use case::Case;
 use col_base::Octets;
@@ -33,7 +34,8 @@ fn passes(rt: &HostRuntime, elements: &Elements, line: &str) -> Result<bool, All
         return Ok(false);
     };
     let mut text = Octets::new(rt.alloc());
-    case.put(elements, &mut text).map_err(|_| AllocError)?;
+    case.put(rt.alloc(), elements, &mut text)
+        .map_err(|_| AllocError)?;
     Ok(text.as_slice() == case.text().as_bytes())
 }
 
