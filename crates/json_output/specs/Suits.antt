@@ -1,5 +1,6 @@
 -- For which definition, by which elements, lines were prepared.
-use Rattle.std.specs.Prelude.{ℕ, ◌≡◌, Bool, List, [], ◌++◌, length, Option, Some, None, IfSome}
+use Rattle.std.specs.Prelude.{ℕ, ◌≡◌, Bool, List, [], ◌++◌, length, Option, Some, None}
+use Rattle.wire_spec.specs.declared.field.FieldSpec.{FieldSpec}
 use Rattle.wire_spec.specs.Content.{Definition}
 use Rattle.wire_spec.specs.Record.{IsRecord}
 use Rattle.text_spec.specs.declared.element.Element.{Element}
@@ -12,9 +13,14 @@ abbrev pub text_by : Option Line → List (List ℕ) → List ℕ
 text_by None values = []
 text_by (Some line) values = line_text line values
 
+-- the fields of the records whose line it is; those that are given, where there is none
+abbrev pub fields_by : Option Line → List FieldSpec → List FieldSpec
+fields_by None fields = fields
+fields_by (Some line) fields = line.fields
+
 -- what was prepared is for records of these fields
 abbrev pub IsOf : Definition → Prepared → Type 0
-IsOf def prepared = IfSome prepared.line (λ line. line.fields ≡ def.fields)
+IsOf def prepared = fields_by prepared.line def.fields ≡ def.fields
 
 -- and puts what is printed of each record
 pub record Suits (options : Bool) (table : List Element) (def : Definition) (prepared : Prepared) : Type 0 where
