@@ -4,5 +4,5 @@
 mod agree;
 mod change;
 
-pub use agree::agrees;
+pub use agree::{agrees, top_bits};
 pub use change::{keep_bits, put_bits};

@@ -1,1 +1,5 @@
 mod StepLemmas
+mod RangeLemmas
+mod SegmentLemmas
+mod TableLemmas
+mod PreparedLemmas

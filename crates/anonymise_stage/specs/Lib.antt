@@ -1,1 +1,5 @@
 pub mod Step
+pub mod Ranges
+pub mod Segments
+pub mod Table
+pub mod Prepared

@@ -1,0 +1,16 @@
+use Rattle.std.proofs.Common.{leb, leb-true, arith, rules}
+use Rattle.std.proofs.lemmas.Bool.{leb-false}
+use Rattle.std.proofs.lemmas.List.Sorted.{IsPartitionPoint-from_clause, IsPartitionedBy-leb}
+use Rattle.anonymise_stage.proofs.segment.behind.Goals as goal
+
+pub returns-clause-before : goal.returns-clause-before
+returns-clause-before c =
+    let parted = IsPartitionedBy-leb (λ s. s.start) _ c.args.number c.requires in
+    let point = IsPartitionPoint-from_clause (λ s. leb s.start c.args.number) _ _ c.partition_point.ensures.partitioned parted (λ a r q k. search rules) in
+    λ k d h. leb-true _ _ (point.0 k d (omega arith) h)
+
+pub returns-clause-after : goal.returns-clause-after
+returns-clause-after c =
+    let parted = IsPartitionedBy-leb (λ s. s.start) _ c.args.number c.requires in
+    let point = IsPartitionPoint-from_clause (λ s. leb s.start c.args.number) _ _ c.partition_point.ensures.partitioned parted (λ a r q k. search rules) in
+    λ k d h inside. leb-false _ _ (point.1 k d h inside)
