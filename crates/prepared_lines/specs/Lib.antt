@@ -5,3 +5,4 @@ pub mod Shape
 pub mod Hot
 pub mod General
 pub mod Way
+pub mod Front
