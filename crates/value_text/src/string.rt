@@ -1,6 +1,6 @@
 // The text of a string.
 ghost use Rattle.std.specs.Prelude.{◌≡◌, ◌≤◌, ◌<◌, ◌+◌, ◌*◌, ◌++◌, IsTrue, flat_map, length, take, unwrap_or};
-ghost use Rattle.std.specs.Str.{is_utf8};
+ghost use Rattle.std.specs.Str.{IsAscii, is_utf8};
 ghost use Rattle.text_spec.specs.Marks.{escape_mark};
 ghost use Rattle.text_spec.specs.Value.{before_end_zeros, hex_pair, escaped, escaped_octet, octet_text, quoted, string_text};
 
@@ -65,27 +65,27 @@ fn place_each(value: &[u8], text: &mut [u8], at: usize) -> usize
     end
 }
 
-/// Whether the octets of a text stand in a JSON string as they are. All are looked at, so that many are at once.
+/// Whether octets are characters of ASCII that stand in a JSON string as they are. All are looked at, so that many are at
+/// once.
 fn is_plain(value: &[u8]) -> bool
-    ensures { IsTrue result → escaped value.now ≡ value.now }
+    ensures { IsTrue result → IsAscii value.now × (escaped value.now ≡ value.now) }
 {
     let mut plain = true;
     for octet in value {
-        plain &= *octet >= 32 && *octet != b'"' && *octet != b'\\';
+        plain &= *octet >= 32 && *octet < 128 && *octet != b'"' && *octet != b'\\';
     }
     plain
 }
 
-/// Puts the octets of a text as they stand in a JSON string.
-fn place_characters(value: &[u8], text: &mut [u8], at: usize) -> usize
-    requires { at + 6 * length value.now ≤ length text.old }
-    ensures grown { take result text.new ≡ take at text.old ++ escaped value.now }
-    ensures near { result ≤ at + 6 * length value.now }
+/// Puts a text in quotes as it is.
+fn place_plain(value: &[u8], text: &mut [u8], at: usize) -> usize
+    requires { at + length value.now + 2 ≤ length text.old }
+    ensures grown { take result text.new ≡ take at text.old ++ quoted value.now }
+    ensures near { result ≤ at + length value.now + 2 }
 {
-    if is_plain(value) {
-        return place_piece(value, text, at);
-    }
-    place_each(value, text, at)
+    let end = place_quote(text, at);
+    let end = place_piece(value, text, end);
+    place_quote(text, end)
 }
 
 /// Puts a text in quotes.
@@ -95,7 +95,7 @@ fn place_quoted(value: &[u8], text: &mut [u8], at: usize) -> usize
     ensures near { result ≤ at + 6 * length value.now + 2 }
 {
     let end = place_quote(text, at);
-    let end = place_characters(value, text, end);
+    let end = place_each(value, text, end);
     place_quote(text, end)
 }
 
@@ -116,6 +116,9 @@ pub fn place_string(value: &[u8], text: &mut [u8], at: usize) -> usize
     ensures near { result ≤ at + 6 * length value.now + 20 }
 {
     let shown = before_end_zeros(value);
+    if is_plain(shown) {
+        return place_plain(shown, text, at);
+    }
     if !is_utf8(shown) {
         return place_octets(value, text, at);
     }
