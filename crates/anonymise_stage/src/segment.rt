@@ -1,4 +1,9 @@
 // Which row decides over which addresses.
+//
+// Rows cover ranges of addresses, one inside the other or apart. Between two bounds of ranges that follow one another no
+// range begins or ends, so that each row agrees with all addresses there or with none, and one row decides over them. Mind
+// that a range's bounds are its first number and the one behind its last; the greatest number has none behind it, and
+// stands for itself.
 ghost use Rattle.std.specs.Prelude.{◌≡◌, ◌<◌, ◌≤◌, ◌&&◌, ℕ, List, IfOk, IfSome, length, slice_index_or};
 ghost use Rattle.std.specs.List.Sorted.{IsNonDecreasingBy};
 ghost use Rattle.anonymise_stage.specs.Segments.{AreSegments, after, best_at, bounds_of, covers_at, has_more, row_at, start_of};
