@@ -20,7 +20,7 @@ use Rattle.site_io.specs.Outside.{Counts}
 use Rattle.site_io.specs.Writes.{Grows, Writes}
 use Rattle.json_output.specs.Printed.{records_text}
 use Rattle.json_output.specs.Suits.{Suits}
-use Rattle.json_output.specs.declared.forms.Prepared.{Prepared}
+use Rattle.json_output.specs.declared.prepared.Prepared.{Prepared}
 use Rattle.text_spec.specs.declared.element.Element.{Element}
 use Rattle.call_spec.specs.Counts.{MovesBy}
 use Rattle.call_spec.specs.Ends.{GrowsByFront, has_failed}

@@ -1,4 +1,4 @@
-pub mod FrontLemmas
 pub mod DottedLemmas
 pub mod RowLemmas
 pub mod ListLemmas
+pub mod DigitLemmas

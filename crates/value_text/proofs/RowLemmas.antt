@@ -1,12 +1,12 @@
--- The rows of octets, and what is left of a row that was put into the room.
-use Rattle.std.proofs.Common.{◌≡◌, ℕ, zero, suc, ◌+◌, ◌*◌, ◌<◌, ◌≤◌, inl, inr, Bool, true, ◌&&◌, List, [], ◌∷◌, ◌++◌, length, take, drop, refl, ap, sym, ◌∙◌, arith}
+-- What is left of a piece that was put into the room: the digits of an octet, and of a number.
+use Rattle.std.proofs.Common.{◌≡◌, ℕ, zero, suc, ◌+◌, ◌*◌, ◌<◌, ◌≤◌, inl, inr, Bool, true, ◌&&◌, List, [], ◌∷◌, ◌++◌, get_or, length, take, refl, ap, sym, ◌∙◌, arith}
 use Rattle.std.specs.Str.{bytes_eq}
 use Rattle.std.proofs.Math.Seq.{take-append-add, take-append_seam}
 use Rattle.std.proofs.lemmas.List.{take-take, length-take-le}
 use Rattle.std.proofs.lemmas.Slice.Eq.{bytes_eq-Decides}
 use Rattle.std.proofs.lemmas.Bool.{and_parts}
 use Rattle.value_text.specs.declared.dotted.TheConstants.{ROWS}
-use Rattle.value_text.specs.Dotted.{octet_digits, marked}
+use Rattle.value_text.specs.Dotted.{octet_digits, marked, row}
 use Rattle.value_text.proofs.DottedLemmas.{below_or_last, at_most_three}
 
 -- the front of a piece
@@ -15,10 +15,6 @@ cut at k m old new piece le less e =
     let first : take (at + k) new ≡ take (at + k) (take at old ++ piece) = sym (take-take (at + k) (at + m) new (omega (arith, less))) ∙ ap (λ l. take (at + k) l) e in
     let place : at + k ≡ length (take at old) + k = ap (λ n. n + k) (sym (length-take-le at old le)) in
     first ∙ ap (λ n. take n (take at old ++ piece)) place ∙ take-append-add (take at old) piece k
-
--- the row of an octet
-abbrev pub row : ℕ → List ℕ
-row n = take 4 (drop (4 * n) ROWS)
 
 -- so many numbers have their digits and a dot in their rows
 have_rows : ℕ → Bool
@@ -52,3 +48,26 @@ row_digits n at old new lt le e =
     let k = length (octet_digits n) in
     let whole : take (at + (k + 1)) new ≡ take at old ++ marked n 46 = ap (λ m. take m new) (let p : at + (k + 1) ≡ at + k + 1 = omega arith in p) ∙ row_dotted n at old new lt le e in
     cut at k (k + 1) old new (marked n 46) le (omega arith) whole ∙ ap (λ l. take at old ++ l) (take-append_seam (octet_digits n) (46 ∷ []))
+
+-- so many rows are their four octets
+are_rows : ℕ → Bool
+are_rows zero = true
+are_rows (suc n) = bytes_eq (get_or ROWS (4 * n) 0 ∷ get_or ROWS (4 * n + 1) 0 ∷ get_or ROWS (4 * n + 2) 0 ∷ get_or ROWS (4 * n + 3) 0 ∷ []) (row n) && are_rows n
+
+all_rows : are_rows 256 ≡ true
+unfolding are_rows
+all_rows = refl
+
+each_row : (k n : ℕ) → are_rows k ≡ true → n < k → get_or ROWS (4 * n) 0 ∷ get_or ROWS (4 * n + 1) 0 ∷ get_or ROWS (4 * n + 2) 0 ∷ get_or ROWS (4 * n + 3) 0 ∷ [] ≡ row n
+unfolding are_rows
+each_row zero n all lt = absurd (omega arith)
+each_row (suc k) n all lt =
+    let parts = and_parts _ _ all in
+    let octets : ℕ → List ℕ = λ m. get_or ROWS (4 * m) 0 ∷ get_or ROWS (4 * m + 1) 0 ∷ get_or ROWS (4 * m + 2) 0 ∷ get_or ROWS (4 * m + 3) 0 ∷ [] in
+    elim (below_or_last n k lt) [
+      | inl e ↦ (bytes_eq-Decides (octets n) (row n)).0 (ap (λ m. bytes_eq (octets m) (row m)) e ∙ parts.0)
+      | inr l ↦ each_row k n parts.1 l
+    ]
+
+pub row_is : (n : ℕ) → n < 256 → get_or ROWS (4 * n) 0 ∷ get_or ROWS (4 * n + 1) 0 ∷ get_or ROWS (4 * n + 2) 0 ∷ get_or ROWS (4 * n + 3) 0 ∷ [] ≡ row n
+row_is n lt = each_row 256 n all_rows lt

@@ -1,3 +1,3 @@
-pub mod Front
 pub mod Dotted
 pub mod Groups
+pub mod Digits

@@ -1,15 +1,13 @@
 // The text of an IPv6 address (RFC 5952, section 4).
-ghost use Rattle.std.specs.Prelude.{◌≡◌, ◌≤◌, ◌<◌, ◌+◌, ◌++◌, OnErr, OnOk, codes, flat_map, drop, length, unwrap_or};
+ghost use Rattle.std.specs.Prelude.{◌≡◌, ◌≤◌, ◌<◌, ◌+◌, ◌*◌, ◌++◌, codes, flat_map, take, drop, length, unwrap_or};
 ghost use Rattle.std.specs.Net.Addr.{segments_of};
 ghost use Rattle.std.specs.Net.Text as net;
 ghost use Rattle.text_spec.specs.Value.{ipv6_text, octet_text, quoted};
-ghost use Rattle.value_text.specs.Front.{GrowsByFront};
 ghost use Rattle.value_text.specs.Groups.{separator, later_group, zero_groups};
 
-use crate::octet_text::{hex_digit, put_octets, put_quote};
-use crate::piece::put_piece;
-use col_base::{Octets, be16};
-use std::alloc::AllocError;
+use crate::octet_text::{hex_digit, place_octets, place_quote};
+use crate::place::{place_one, place_quad, place_three, place_two};
+use col_base::be16;
 
 /// How many of a group's four digits are zeros that stand in front.
 fn leading_zeros(group: u16) -> usize
@@ -37,50 +35,76 @@ fn digits_of(group: u16) -> [u8; 4]
     ]
 }
 
-/// Appends a group without leading zeros.
-fn put_group(group: u16, out: &mut Octets) -> Result<(), AllocError>
-    ensures ok { OnOk result (out.new ≡ out.old ++ net.hex group) }
-    ensures err { OnErr result (GrowsByFront out.old out.new (net.hex group)) }
+/// Puts a group without leading zeros.
+fn place_group(group: u16, text: &mut [u8], at: usize) -> usize
+    requires { at + 4 ≤ length text.old }
+    ensures grown { take result text.new ≡ take at text.old ++ net.hex group }
+    ensures near { result ≤ at + 4 }
 {
-    put_piece(&digits_of(group)[leading_zeros(group)..], out)
-}
-
-/// Appends a colon.
-#[tactic(auto, unfolding(crate::specs::Groups::separator))]
-fn put_separator(out: &mut Octets) -> Result<(), AllocError>
-    ensures ok { OnOk result (out.new ≡ out.old ++ separator) }
-    ensures err { OnErr result (GrowsByFront out.old out.new separator) }
-{
-    put_piece(b":", out)
-}
-
-/// Appends a colon and a group.
-fn put_later_group(group: u16, out: &mut Octets) -> Result<(), AllocError>
-    ensures ok { OnOk result (out.new ≡ out.old ++ later_group group) }
-    ensures err { OnErr result (GrowsByFront out.old out.new (later_group group)) }
-{
-    put_separator(out)?;
-    put_group(group, out)
-}
-
-/// Appends groups, a colon before each.
-fn put_later_groups(groups: &[u16], out: &mut Octets) -> Result<(), AllocError>
-    ensures ok { OnOk result (out.new ≡ out.old ++ flat_map later_group groups.now) }
-    ensures err { OnErr result (GrowsByFront out.old out.new (flat_map later_group groups.now)) }
-{
-    for group in groups {
-        put_later_group(*group, out)?;
+    let [first, second, third, fourth] = digits_of(group);
+    match leading_zeros(group) {
+        0 => {
+            place_quad(first, second, third, fourth, text, at);
+            at + 4
+        }
+        1 => {
+            place_three(second, third, fourth, text, at);
+            at + 3
+        }
+        2 => {
+            place_two(third, fourth, text, at);
+            at + 2
+        }
+        _ => {
+            place_one(fourth, text, at);
+            at + 1
+        }
     }
-    Ok(())
 }
 
-/// Appends a group, and others behind it.
-fn put_first(first: u16, later: &[u16], out: &mut Octets) -> Result<(), AllocError>
-    ensures ok { OnOk result (out.new ≡ out.old ++ (net.hex first ++ flat_map later_group later.now)) }
-    ensures err { OnErr result (GrowsByFront out.old out.new (net.hex first ++ flat_map later_group later.now)) }
+/// Puts a colon.
+#[inline(always)]
+#[tactic(auto, unfolding(crate::specs::Groups::separator))]
+fn place_separator(text: &mut [u8], at: usize) -> usize
+    requires { at + 1 ≤ length text.old }
+    ensures grown { take result text.new ≡ take at text.old ++ separator }
+    ensures near { result ≤ at + 1 }
 {
-    put_group(first, out)?;
-    put_later_groups(later, out)
+    place_one(b':', text, at);
+    at + 1
+}
+
+/// Puts a colon and a group.
+fn place_later_group(group: u16, text: &mut [u8], at: usize) -> usize
+    requires { at + 5 ≤ length text.old }
+    ensures grown { take result text.new ≡ take at text.old ++ later_group group }
+    ensures near { result ≤ at + 5 }
+{
+    let end = place_separator(text, at);
+    place_group(group, text, end)
+}
+
+/// Puts groups, a colon before each.
+fn place_later_groups(groups: &[u16], text: &mut [u8], at: usize) -> usize
+    requires { at + 5 * length groups.now ≤ length text.old }
+    ensures grown { take result text.new ≡ take at text.old ++ flat_map later_group groups.now }
+    ensures near { result ≤ at + 5 * length groups.now }
+{
+    let mut end = at;
+    for group in groups {
+        end = place_later_group(*group, text, end);
+    }
+    end
+}
+
+/// Puts a group, and others behind it.
+fn place_first(first: u16, later: &[u16], text: &mut [u8], at: usize) -> usize
+    requires { at + 5 + 5 * length later.now ≤ length text.old }
+    ensures grown { take result text.new ≡ take at text.old ++ (net.hex first ++ flat_map later_group later.now) }
+    ensures near { result ≤ at + 5 + 5 * length later.now }
+{
+    let end = place_group(first, text, at);
+    place_later_groups(later, text, end)
 }
 
 /// All groups but the first.
@@ -91,15 +115,16 @@ fn later(groups: &[u16]) -> &[u16]
     &groups[1..]
 }
 
-/// Appends groups, a colon between.
-fn put_groups(groups: &[u16], out: &mut Octets) -> Result<(), AllocError>
-    ensures ok { OnOk result (out.new ≡ out.old ++ net.groups_text groups.now) }
-    ensures err { OnErr result (GrowsByFront out.old out.new (net.groups_text groups.now)) }
+/// Puts groups, a colon between.
+fn place_groups(groups: &[u16], text: &mut [u8], at: usize) -> usize
+    requires { at + 5 * length groups.now ≤ length text.old }
+    ensures grown { take result text.new ≡ take at text.old ++ net.groups_text groups.now }
+    ensures near { result ≤ at + 5 * length groups.now }
 {
     if groups.is_empty() {
-        return Ok(());
+        return at;
     }
-    put_first(groups[0], later(groups), out)
+    place_first(groups[0], later(groups), text, at)
 }
 
 /// The start and the length of the longest run of zero groups, the leftmost of equals.
@@ -120,36 +145,41 @@ fn longest_zero_run(groups: &[u16]) -> (usize, usize)
     (start, len)
 }
 
-/// Appends two colons.
+/// Puts two colons.
+#[inline(always)]
 #[tactic(auto, unfolding(crate::specs::Groups::zero_groups))]
-fn put_zero_groups(out: &mut Octets) -> Result<(), AllocError>
-    ensures ok { OnOk result (out.new ≡ out.old ++ zero_groups) }
-    ensures err { OnErr result (GrowsByFront out.old out.new zero_groups) }
+fn place_zero_groups(text: &mut [u8], at: usize) -> usize
+    requires { at + 2 ≤ length text.old }
+    ensures grown { take result text.new ≡ take at text.old ++ zero_groups }
+    ensures near { result ≤ at + 2 }
 {
-    put_piece(b"::", out)
+    place_two(b':', b':', text, at);
+    at + 2
 }
 
-/// Appends groups, and two colons between.
-fn put_parts(front: &[u16], back: &[u16], out: &mut Octets) -> Result<(), AllocError>
-    ensures ok { OnOk result (out.new ≡ out.old ++ (net.groups_text front.now ++ zero_groups ++ net.groups_text back.now)) }
-    ensures err { OnErr result (GrowsByFront out.old out.new (net.groups_text front.now ++ zero_groups ++ net.groups_text back.now)) }
+/// Puts groups, and two colons between.
+fn place_parts(front: &[u16], back: &[u16], text: &mut [u8], at: usize) -> usize
+    requires { at + 5 * length front.now + 2 + 5 * length back.now ≤ length text.old }
+    ensures grown { take result text.new ≡ take at text.old ++ (net.groups_text front.now ++ zero_groups ++ net.groups_text back.now) }
+    ensures near { result ≤ at + 5 * length front.now + 2 + 5 * length back.now }
 {
-    put_groups(front, out)?;
-    put_zero_groups(out)?;
-    put_groups(back, out)
+    let end = place_groups(front, text, at);
+    let end = place_zero_groups(text, end);
+    place_groups(back, text, end)
 }
 
-/// Appends groups, the longest run of two or more that are zero as two colons.
+/// Puts groups, the longest run of two or more that are zero as two colons.
 #[tactic(auto, unfolding(std::specs::Net::Text::hex_groups_text, crate::specs::Groups::zero_groups))]
-fn put_compressed(groups: &[u16], out: &mut Octets) -> Result<(), AllocError>
-    ensures ok { OnOk result (out.new ≡ out.old ++ net.hex_groups_text groups.now) }
-    ensures err { OnErr result (GrowsByFront out.old out.new (net.hex_groups_text groups.now)) }
+fn place_compressed(groups: &[u16], text: &mut [u8], at: usize) -> usize
+    requires { at + 5 * length groups.now + 2 ≤ length text.old }
+    ensures grown { take result text.new ≡ take at text.old ++ net.hex_groups_text groups.now }
+    ensures near { result ≤ at + 5 * length groups.now + 2 }
 {
     let (start, len) = longest_zero_run(groups);
     if len < 2 {
-        return put_groups(groups, out);
+        return place_groups(groups, text, at);
     }
-    put_parts(&groups[..start], &groups[start + len..], out)
+    place_parts(&groups[..start], &groups[start + len..], text, at)
 }
 
 /// The groups of an address.
@@ -169,24 +199,26 @@ fn groups_of(value: &[u8]) -> [u16; 8]
     ]
 }
 
-/// Appends an address of sixteen octets.
-fn put_sixteen(value: &[u8], out: &mut Octets) -> Result<(), AllocError>
-    requires { length value.now ≡ 16 }
-    ensures ok { OnOk result (out.new ≡ out.old ++ quoted (net.hex_groups_text (segments_of value.now))) }
-    ensures err { OnErr result (GrowsByFront out.old out.new (quoted (net.hex_groups_text (segments_of value.now)))) }
+/// Puts an address of sixteen octets.
+fn place_sixteen(value: &[u8], text: &mut [u8], at: usize) -> usize
+    requires sixteen { length value.now ≡ 16 }
+    requires room { at + 44 ≤ length text.old }
+    ensures grown { take result text.new ≡ take at text.old ++ quoted (net.hex_groups_text (segments_of value.now)) }
+    ensures near { result ≤ at + 44 }
 {
-    put_quote(out)?;
-    put_compressed(&groups_of(value), out)?;
-    put_quote(out)
+    let end = place_quote(text, at);
+    let end = place_compressed(&groups_of(value), text, end);
+    place_quote(text, end)
 }
 
-/// Appends an IPv6 address.
-pub fn put_ipv6(value: &[u8], out: &mut Octets) -> Result<(), AllocError>
-    ensures ok { OnOk result (out.new ≡ out.old ++ unwrap_or (ipv6_text value.now) (octet_text value.now)) }
-    ensures err { OnErr result (GrowsByFront out.old out.new (unwrap_or (ipv6_text value.now) (octet_text value.now))) }
+/// Puts an IPv6 address.
+pub fn place_ipv6(value: &[u8], text: &mut [u8], at: usize) -> usize
+    requires { at + 6 * length value.now + 64 ≤ length text.old }
+    ensures grown { take result text.new ≡ take at text.old ++ unwrap_or (ipv6_text value.now) (octet_text value.now) }
+    ensures near { result ≤ at + 6 * length value.now + 20 }
 {
     if value.len() != 16 {
-        return put_octets(value, out);
+        return place_octets(value, text, at);
     }
-    put_sixteen(value, out)
+    place_sixteen(value, text, at)
 }

@@ -1,14 +1,11 @@
 // The text of a MAC address.
-ghost use Rattle.std.specs.Prelude.{◌≡◌, ◌++◌, [], ◌∷◌, OnErr, OnOk, length, unwrap_or};
+ghost use Rattle.std.specs.Prelude.{◌≡◌, ◌≤◌, ◌+◌, ◌*◌, ◌++◌, [], ◌∷◌, length, take, unwrap_or};
 ghost use Rattle.std.specs.List.{join_by};
 ghost use Rattle.text_spec.specs.Marks.{colon};
 ghost use Rattle.text_spec.specs.Value.{hex_pair, mac_text, octet_text, quoted};
-ghost use Rattle.value_text.specs.Front.{GrowsByFront};
 
-use crate::octet_text::{hex_digit, put_octets};
-use crate::piece::put_piece;
-use col_base::Octets;
-use std::alloc::AllocError;
+use crate::octet_text::{hex_digit, place_octets};
+use crate::place::place_piece;
 
 /// Six octets with colons between, in quotes.
 #[tactic(auto, unfolding(text_spec::specs::Marks::quote, text_spec::specs::Marks::colon))]
@@ -38,23 +35,25 @@ fn address(a: u8, b: u8, c: u8, d: u8, e: u8, f: u8) -> [u8; 19]
     ]
 }
 
-/// Appends an address of six octets.
-fn put_six(value: &[u8], out: &mut Octets) -> Result<(), AllocError>
-    requires { length value.now ≡ 6 }
-    ensures ok { OnOk result (out.new ≡ out.old ++ quoted (join_by hex_pair colon value.now)) }
-    ensures err { OnErr result (GrowsByFront out.old out.new (quoted (join_by hex_pair colon value.now))) }
+/// Puts an address of six octets.
+fn place_six(value: &[u8], text: &mut [u8], at: usize) -> usize
+    requires six { length value.now ≡ 6 }
+    requires room { at + 20 ≤ length text.old }
+    ensures grown { take result text.new ≡ take at text.old ++ quoted (join_by hex_pair colon value.now) }
+    ensures near { result ≤ at + 20 }
 {
-    let text = address(value[0], value[1], value[2], value[3], value[4], value[5]);
-    put_piece(&text, out)
+    let address = address(value[0], value[1], value[2], value[3], value[4], value[5]);
+    place_piece(&address, text, at)
 }
 
-/// Appends a MAC address.
-pub fn put_mac(value: &[u8], out: &mut Octets) -> Result<(), AllocError>
-    ensures ok { OnOk result (out.new ≡ out.old ++ unwrap_or (mac_text value.now) (octet_text value.now)) }
-    ensures err { OnErr result (GrowsByFront out.old out.new (unwrap_or (mac_text value.now) (octet_text value.now))) }
+/// Puts a MAC address.
+pub fn place_mac(value: &[u8], text: &mut [u8], at: usize) -> usize
+    requires { at + 6 * length value.now + 64 ≤ length text.old }
+    ensures grown { take result text.new ≡ take at text.old ++ unwrap_or (mac_text value.now) (octet_text value.now) }
+    ensures near { result ≤ at + 6 * length value.now + 20 }
 {
     if value.len() != 6 {
-        return put_octets(value, out);
+        return place_octets(value, text, at);
     }
-    put_six(value, out)
+    place_six(value, text, at)
 }

@@ -1,54 +1,65 @@
 // The names of elements.
-ghost use Rattle.std.specs.Prelude.{◌≡◌, ◌++◌, OnErr, OnOk, decimal};
+ghost use Rattle.std.specs.Prelude.{◌≡◌, ◌≤◌, ◌+◌, ◌++◌, OnErr, OnOk, decimal, length, take};
 ghost use Rattle.text_spec.specs.Marks.{enterprise_mark, id_mark};
 ghost use Rattle.text_spec.specs.Name.{name_text, number_name};
-ghost use Rattle.value_text.specs.Front.{GrowsByFront};
 
-use crate::number::put_decimal;
-use crate::piece::put_piece;
+use crate::digits::place_u32;
+use crate::place::{place_three, place_two};
 use col_base::{Octets, WantOfMemory};
 use element_table::Elements;
 use std::alloc::AllocError;
 
-/// Appends what stands before an enterprise number.
+/// The octets of the room in which a name of two numbers is put.
+const ROOM: usize = 64;
+
+/// Puts what stands before an enterprise number.
 #[tactic(auto, unfolding(text_spec::specs::Marks::enterprise_mark))]
-fn put_enterprise_mark(out: &mut Octets) -> Result<(), AllocError>
-    ensures ok { OnOk result (out.new ≡ out.old ++ enterprise_mark) }
-    ensures err { OnErr result (GrowsByFront out.old out.new enterprise_mark) }
+fn place_enterprise_mark(text: &mut [u8], at: usize) -> usize
+    requires { at + 2 ≤ length text.old }
+    ensures grown { take result text.new ≡ take at text.old ++ enterprise_mark }
+    ensures near { result ≤ at + 2 }
 {
-    put_piece(b"en", out)
+    place_two(b'e', b'n', text, at);
+    at + 2
 }
 
-/// Appends what stands between an enterprise number and an ID.
+/// Puts what stands between an enterprise number and an ID.
 #[tactic(auto, unfolding(text_spec::specs::Marks::id_mark))]
-fn put_id_mark(out: &mut Octets) -> Result<(), AllocError>
-    ensures ok { OnOk result (out.new ≡ out.old ++ id_mark) }
-    ensures err { OnErr result (GrowsByFront out.old out.new id_mark) }
+fn place_id_mark(text: &mut [u8], at: usize) -> usize
+    requires { at + 3 ≤ length text.old }
+    ensures grown { take result text.new ≡ take at text.old ++ id_mark }
+    ensures near { result ≤ at + 3 }
 {
-    put_piece(b":id", out)
+    place_three(b':', b'i', b'd', text, at);
+    at + 3
 }
 
-/// Appends an enterprise number with its mark.
-fn put_enterprise(pen: u32, out: &mut Octets) -> Result<(), AllocError>
-    ensures ok { OnOk result (out.new ≡ out.old ++ (enterprise_mark ++ decimal pen)) }
-    ensures err { OnErr result (GrowsByFront out.old out.new (enterprise_mark ++ decimal pen)) }
+/// Puts the name of an element that no table has.
+fn place_numbers(pen: u32, id: u16, text: &mut [u8], at: usize) -> usize
+    requires { at + 64 ≤ length text.old }
+    ensures grown { take result text.new ≡ take at text.old ++ number_name pen id }
+    ensures near { result ≤ at + 64 }
 {
-    put_enterprise_mark(out)?;
-    put_decimal(u64::from(pen), out)
+    let end = place_enterprise_mark(text, at);
+    let end = place_u32(pen, text, end);
+    let end = place_id_mark(text, end);
+    place_u32(u32::from(id), text, end)
 }
 
 /// Appends the name of an element that no table has.
 fn put_numbers(pen: u32, id: u16, out: &mut Octets) -> Result<(), AllocError>
     ensures ok { OnOk result (out.new ≡ out.old ++ number_name pen id) }
-    ensures err { OnErr result (GrowsByFront out.old out.new (number_name pen id)) }
+    ensures err { OnErr result (out.new ≡ out.old) }
 {
-    put_enterprise(pen, out)?;
-    put_id_mark(out)?;
-    put_decimal(u64::from(id), out)
+    let at = out.len();
+    out.extend_zeros(ROOM)?;
+    let end = place_numbers(pen, id, out.as_mut_slice(), at);
+    out.truncate(end);
+    Ok(())
 }
 
 /// Appends the name of an element, by its enterprise number and its ID: `prefix:name` where the table has it, and else
-/// `enPEN:idID`. Where memory is refused a front of the name is appended, which may be none of it.
+/// `enPEN:idID`. Where memory is refused nothing is appended.
 #[tactic(auto, unfolding(text_spec::specs::Name::name_text))]
 pub fn put_name(
     elements: &Elements,
@@ -57,10 +68,10 @@ pub fn put_name(
     out: &mut Octets,
 ) -> Result<(), WantOfMemory>
     ensures ok { OnOk result (out.new ≡ out.old ++ name_text elements.now pen id) }
-    ensures err { OnErr result (GrowsByFront out.old out.new (name_text elements.now pen id)) }
+    ensures err { OnErr result (out.new ≡ out.old) }
 {
     match elements.printed(pen, id) {
-        Some(name) => put_piece(name.as_bytes(), out)?,
+        Some(name) => out.extend(name.as_bytes())?,
         None => put_numbers(pen, id, out)?,
     }
     Ok(())

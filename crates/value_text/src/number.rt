@@ -1,15 +1,13 @@
 // Numbers of up to eight octets in decimal.
-ghost use Rattle.std.specs.Prelude.{◌≡◌, ◌≤◌, ◌<◌, ◌+◌, ◌^◌, ◌∷◌, ◌++◌, OnErr, OnOk, decimal, length, unwrap_or};
+ghost use Rattle.std.specs.Prelude.{◌≡◌, ◌≤◌, ◌<◌, ◌+◌, ◌*◌, ◌^◌, ◌∷◌, ◌++◌, decimal, length, take, unwrap_or};
 ghost use Rattle.std.specs.Fmt.{signed_decimal};
 ghost use Rattle.text_spec.specs.Number.{number_of, signed_number_of};
 ghost use Rattle.text_spec.specs.Value.{is_reduced, octet_text, unsigned_text, signed_text};
-ghost use Rattle.value_text.specs.Front.{GrowsByFront};
 
-use crate::octet_text::put_octets;
-use crate::piece::put_piece;
-use col_base::{Octets, be32, be64};
-use itoa::Buffer;
-use std::alloc::AllocError;
+use crate::digits::place_u64;
+use crate::octet_text::place_octets;
+use crate::place::place_one;
+use col_base::{be32, be64};
 
 /// The number of up to eight octets, octet by octet.
 fn add_octets(value: &[u8]) -> u64
@@ -39,14 +37,6 @@ pub fn number(value: &[u8]) -> u64
     add_octets(value)
 }
 
-/// Appends a number in decimal.
-pub fn put_decimal(number: u64, out: &mut Octets) -> Result<(), AllocError>
-    ensures ok { OnOk result (out.new ≡ out.old ++ decimal number) }
-    ensures err { OnErr result (GrowsByFront out.old out.new (decimal number)) }
-{
-    put_piece(Buffer::new().format(number).as_bytes(), out)
-}
-
 /// Whether a number of so many octets can be sent in as many as these (RFC 7011, section 6.2).
 fn is_reduced(size: usize, value: &[u8]) -> bool
     ensures { result ≡ is_reduced size value.now }
@@ -54,16 +44,17 @@ fn is_reduced(size: usize, value: &[u8]) -> bool
     1 <= value.len() && value.len() <= size
 }
 
-/// Appends an unsigned number of a type of so many octets.
-pub fn put_unsigned(size: usize, value: &[u8], out: &mut Octets) -> Result<(), AllocError>
-    requires { size ≤ 8 }
-    ensures ok { OnOk result (out.new ≡ out.old ++ unwrap_or (unsigned_text size value.now) (octet_text value.now)) }
-    ensures err { OnErr result (GrowsByFront out.old out.new (unwrap_or (unsigned_text size value.now) (octet_text value.now))) }
+/// Puts an unsigned number of a type of so many octets.
+pub fn place_unsigned(size: usize, value: &[u8], text: &mut [u8], at: usize) -> usize
+    requires size { size ≤ 8 }
+    requires room { at + 6 * length value.now + 64 ≤ length text.old }
+    ensures grown { take result text.new ≡ take at text.old ++ unwrap_or (unsigned_text size value.now) (octet_text value.now) }
+    ensures near { result ≤ at + 6 * length value.now + 20 }
 {
     if !is_reduced(size, value) {
-        return put_octets(value, out);
+        return place_octets(value, text, at);
     }
-    put_decimal(number(value), out)
+    place_u64(number(value), text, at)
 }
 
 /// The greatest number of so many octets.
@@ -84,39 +75,42 @@ fn greatest(octets: usize) -> u64
     }
 }
 
-/// Appends a number below 0, of which its size is given.
-fn put_negative(size: u64, out: &mut Octets) -> Result<(), AllocError>
-    ensures ok { OnOk result (out.new ≡ out.old ++ 45 ∷ decimal size) }
-    ensures err { OnErr result (GrowsByFront out.old out.new (45 ∷ decimal size)) }
+/// Puts a number below 0, of which its size is given.
+fn place_negative(size: u64, text: &mut [u8], at: usize) -> usize
+    requires { at + 21 ≤ length text.old }
+    ensures grown { take result text.new ≡ take at text.old ++ 45 ∷ decimal size }
+    ensures near { result ≤ at + 21 }
 {
-    put_piece(b"-", out)?;
-    put_decimal(size, out)
+    place_one(b'-', text, at);
+    place_u64(size, text, at + 1)
 }
 
-/// Appends the two's complement number of up to eight octets.
-fn put_complement(value: &[u8], out: &mut Octets) -> Result<(), AllocError>
+/// Puts the two's complement number of up to eight octets.
+fn place_complement(value: &[u8], text: &mut [u8], at: usize) -> usize
     requires few { length value.now ≤ 8 }
     requires some { 1 ≤ length value.now }
-    ensures ok { OnOk result (out.new ≡ out.old ++ signed_decimal (signed_number_of value.now)) }
-    ensures err { OnErr result (GrowsByFront out.old out.new (signed_decimal (signed_number_of value.now))) }
+    requires room { at + 21 ≤ length text.old }
+    ensures grown { take result text.new ≡ take at text.old ++ signed_decimal (signed_number_of value.now) }
+    ensures near { result ≤ at + 21 }
 {
     let number = number(value);
     let greatest = greatest(value.len());
     if number <= greatest / 2 {
-        put_decimal(number, out)
+        place_u64(number, text, at)
     } else {
-        put_negative(greatest - number + 1, out)
+        place_negative(greatest - number + 1, text, at)
     }
 }
 
-/// Appends a signed number of a type of so many octets.
-pub fn put_signed(size: usize, value: &[u8], out: &mut Octets) -> Result<(), AllocError>
-    requires { size ≤ 8 }
-    ensures ok { OnOk result (out.new ≡ out.old ++ unwrap_or (signed_text size value.now) (octet_text value.now)) }
-    ensures err { OnErr result (GrowsByFront out.old out.new (unwrap_or (signed_text size value.now) (octet_text value.now))) }
+/// Puts a signed number of a type of so many octets.
+pub fn place_signed(size: usize, value: &[u8], text: &mut [u8], at: usize) -> usize
+    requires size { size ≤ 8 }
+    requires room { at + 6 * length value.now + 64 ≤ length text.old }
+    ensures grown { take result text.new ≡ take at text.old ++ unwrap_or (signed_text size value.now) (octet_text value.now) }
+    ensures near { result ≤ at + 6 * length value.now + 20 }
 {
     if !is_reduced(size, value) {
-        return put_octets(value, out);
+        return place_octets(value, text, at);
     }
-    put_complement(value, out)
+    place_complement(value, text, at)
 }

@@ -1,15 +1,13 @@
 // The text of a value that no rule of its type covers.
-ghost use Rattle.std.specs.Prelude.{◌≡◌, ◌<◌, ◌++◌, [], ◌∷◌, OnErr, OnOk, flat_map};
+ghost use Rattle.std.specs.Prelude.{◌≡◌, ◌≤◌, ◌<◌, ◌+◌, ◌*◌, ◌++◌, flat_map, length, take};
 ghost use Rattle.std.specs.Char.{digit_char};
 ghost use Rattle.text_spec.specs.Marks.{quote, hexadecimal_mark};
 ghost use Rattle.text_spec.specs.Value.{hex_pair, octet_text};
-ghost use Rattle.value_text.specs.Front.{GrowsByFront};
 
-use crate::piece::put_piece;
-use col_base::Octets;
-use std::alloc::AllocError;
+use crate::place::{place_one, place_three, place_two};
 
 /// A lower-case hexadecimal digit.
+#[inline(always)]
 pub fn hex_digit(n: u8) -> u8
     requires { n < 16 }
     ensures { result ≡ digit_char n }
@@ -17,41 +15,51 @@ pub fn hex_digit(n: u8) -> u8
     if n < 10 { b'0' + n } else { b'a' + (n - 10) }
 }
 
-/// Appends two digits for each octet.
-fn put_pairs(value: &[u8], out: &mut Octets) -> Result<(), AllocError>
-    ensures ok { OnOk result (out.new ≡ out.old ++ flat_map hex_pair value.now) }
-    ensures err { OnErr result (GrowsByFront out.old out.new (flat_map hex_pair value.now)) }
+/// Puts two digits for each octet.
+fn place_pairs(value: &[u8], text: &mut [u8], at: usize) -> usize
+    requires { at + 2 * length value.now ≤ length text.old }
+    ensures grown { take result text.new ≡ take at text.old ++ flat_map hex_pair value.now }
+    ensures near { result ≤ at + 2 * length value.now }
 {
+    let mut end = at;
     for octet in value {
-        out.extend(&[hex_digit(*octet / 16), hex_digit(*octet % 16)])?;
+        place_two(hex_digit(*octet / 16), hex_digit(*octet % 16), text, end);
+        end += 2;
     }
-    Ok(())
+    end
 }
 
-/// Appends a quote and the mark of hexadecimal digits.
+/// Puts a quote and the mark of hexadecimal digits.
+#[inline(always)]
 #[tactic(auto, unfolding(text_spec::specs::Marks::quote, text_spec::specs::Marks::hexadecimal_mark))]
-fn put_start(out: &mut Octets) -> Result<(), AllocError>
-    ensures ok { OnOk result (out.new ≡ out.old ++ (quote ++ hexadecimal_mark)) }
-    ensures err { OnErr result (out.new ≡ out.old) }
+fn place_start(text: &mut [u8], at: usize) -> usize
+    requires { at + 3 ≤ length text.old }
+    ensures grown { take result text.new ≡ take at text.old ++ (quote ++ hexadecimal_mark) }
+    ensures near { result ≤ at + 3 }
 {
-    out.extend(b"\"0x")
+    place_three(b'"', b'0', b'x', text, at);
+    at + 3
 }
 
-/// Appends a quote.
+/// Puts a quote.
+#[inline(always)]
 #[tactic(auto, unfolding(text_spec::specs::Marks::quote))]
-pub fn put_quote(out: &mut Octets) -> Result<(), AllocError>
-    ensures ok { OnOk result (out.new ≡ out.old ++ quote) }
-    ensures err { OnErr result (out.new ≡ out.old) }
+pub fn place_quote(text: &mut [u8], at: usize) -> usize
+    requires { at + 1 ≤ length text.old }
+    ensures grown { take result text.new ≡ take at text.old ++ quote }
+    ensures near { result ≤ at + 1 }
 {
-    out.extend(b"\"")
+    place_one(b'"', text, at);
+    at + 1
 }
 
-/// Appends the octets of a value: in quotes `0x`, and two digits for each octet.
-pub fn put_octets(value: &[u8], out: &mut Octets) -> Result<(), AllocError>
-    ensures ok { OnOk result (out.new ≡ out.old ++ octet_text value.now) }
-    ensures err { OnErr result (GrowsByFront out.old out.new (octet_text value.now)) }
+/// Puts the octets of a value: in quotes `0x`, and two digits for each octet.
+pub fn place_octets(value: &[u8], text: &mut [u8], at: usize) -> usize
+    requires { at + 6 * length value.now + 64 ≤ length text.old }
+    ensures grown { take result text.new ≡ take at text.old ++ octet_text value.now }
+    ensures near { result ≤ at + 6 * length value.now + 20 }
 {
-    put_start(out)?;
-    put_pairs(value, out)?;
-    put_quote(out)
+    let end = place_start(text, at);
+    let end = place_pairs(value, text, end);
+    place_quote(text, end)
 }

@@ -1,13 +1,12 @@
 // Times in milliseconds since 1970 (RFC 7011, sections 6.1.7 to 6.1.10).
-ghost use Rattle.std.specs.Prelude.{◌≡◌, ◌≤◌, ◌==◌, ◌&&◌, ◌++◌, OnErr, OnOk, length, nat_le, take, drop, unwrap_or};
+ghost use Rattle.std.specs.Prelude.{◌≡◌, ◌≤◌, ◌+◌, ◌*◌, ◌==◌, ◌&&◌, ◌++◌, length, nat_le, take, drop, unwrap_or};
 ghost use Rattle.text_spec.specs.Number.{number_of};
 ghost use Rattle.text_spec.specs.Value.{octet_text, seconds_text, milliseconds_text, microseconds_text, nanoseconds_text, ntp_milliseconds, ntp_seconds_of_1970};
-ghost use Rattle.value_text.specs.Front.{GrowsByFront};
 
-use crate::number::{number, put_decimal};
-use crate::octet_text::put_octets;
-use col_base::{Octets, be32};
-use std::alloc::AllocError;
+use crate::digits::place_u64;
+use crate::number::number;
+use crate::octet_text::place_octets;
+use col_base::be32;
 
 /// The seconds from 1900 to 1970.
 const SECONDS_TO_1970: u64 = 2_208_988_800;
@@ -18,26 +17,28 @@ const FRACTIONS: u64 = 1 << 32;
 /// The parts of a second below which a time in microseconds says nothing.
 const MICROSECOND: u32 = 1 << 11;
 
-/// Appends a time in seconds.
-pub fn put_seconds(value: &[u8], out: &mut Octets) -> Result<(), AllocError>
-    ensures ok { OnOk result (out.new ≡ out.old ++ unwrap_or (seconds_text value.now) (octet_text value.now)) }
-    ensures err { OnErr result (GrowsByFront out.old out.new (unwrap_or (seconds_text value.now) (octet_text value.now))) }
+/// Puts a time in seconds.
+pub fn place_seconds(value: &[u8], text: &mut [u8], at: usize) -> usize
+    requires { at + 6 * length value.now + 64 ≤ length text.old }
+    ensures grown { take result text.new ≡ take at text.old ++ unwrap_or (seconds_text value.now) (octet_text value.now) }
+    ensures near { result ≤ at + 6 * length value.now + 20 }
 {
     if value.len() != 4 {
-        return put_octets(value, out);
+        return place_octets(value, text, at);
     }
-    put_decimal(1000 * u64::from(number_of_four(value)), out)
+    place_u64(1000 * u64::from(number_of_four(value)), text, at)
 }
 
-/// Appends a time in milliseconds.
-pub fn put_milliseconds(value: &[u8], out: &mut Octets) -> Result<(), AllocError>
-    ensures ok { OnOk result (out.new ≡ out.old ++ unwrap_or (milliseconds_text value.now) (octet_text value.now)) }
-    ensures err { OnErr result (GrowsByFront out.old out.new (unwrap_or (milliseconds_text value.now) (octet_text value.now))) }
+/// Puts a time in milliseconds.
+pub fn place_milliseconds(value: &[u8], text: &mut [u8], at: usize) -> usize
+    requires { at + 6 * length value.now + 64 ≤ length text.old }
+    ensures grown { take result text.new ≡ take at text.old ++ unwrap_or (milliseconds_text value.now) (octet_text value.now) }
+    ensures near { result ≤ at + 6 * length value.now + 20 }
 {
     if value.len() != 8 {
-        return put_octets(value, out);
+        return place_octets(value, text, at);
     }
-    put_decimal(number(value), out)
+    place_u64(number(value), text, at)
 }
 
 /// A time of NTP in milliseconds since 1970.
@@ -79,26 +80,32 @@ fn is_from_1970(value: &[u8]) -> bool
     value.len() == 8 && u64::from(seconds_of(value)) >= SECONDS_TO_1970
 }
 
-/// Appends a time of NTP of which all bits count.
-pub fn put_nanoseconds(value: &[u8], out: &mut Octets) -> Result<(), AllocError>
-    ensures ok { OnOk result (out.new ≡ out.old ++ unwrap_or (nanoseconds_text value.now) (octet_text value.now)) }
-    ensures err { OnErr result (GrowsByFront out.old out.new (unwrap_or (nanoseconds_text value.now) (octet_text value.now))) }
+/// Puts a time of NTP of which all bits count.
+pub fn place_nanoseconds(value: &[u8], text: &mut [u8], at: usize) -> usize
+    requires { at + 6 * length value.now + 64 ≤ length text.old }
+    ensures grown { take result text.new ≡ take at text.old ++ unwrap_or (nanoseconds_text value.now) (octet_text value.now) }
+    ensures near { result ≤ at + 6 * length value.now + 20 }
 {
     if !is_from_1970(value) {
-        return put_octets(value, out);
+        return place_octets(value, text, at);
     }
-    put_decimal(ntp_milliseconds(seconds_of(value), fraction_of(value)), out)
+    place_u64(
+        ntp_milliseconds(seconds_of(value), fraction_of(value)),
+        text,
+        at,
+    )
 }
 
-/// Appends a time of NTP of whose fraction the lowest 11 bits don't count.
-pub fn put_microseconds(value: &[u8], out: &mut Octets) -> Result<(), AllocError>
-    ensures ok { OnOk result (out.new ≡ out.old ++ unwrap_or (microseconds_text value.now) (octet_text value.now)) }
-    ensures err { OnErr result (GrowsByFront out.old out.new (unwrap_or (microseconds_text value.now) (octet_text value.now))) }
+/// Puts a time of NTP of whose fraction the lowest 11 bits don't count.
+pub fn place_microseconds(value: &[u8], text: &mut [u8], at: usize) -> usize
+    requires { at + 6 * length value.now + 64 ≤ length text.old }
+    ensures grown { take result text.new ≡ take at text.old ++ unwrap_or (microseconds_text value.now) (octet_text value.now) }
+    ensures near { result ≤ at + 6 * length value.now + 20 }
 {
     if !is_from_1970(value) {
-        return put_octets(value, out);
+        return place_octets(value, text, at);
     }
     let fraction = fraction_of(value);
     let counted = fraction - fraction % MICROSECOND;
-    put_decimal(ntp_milliseconds(seconds_of(value), counted), out)
+    place_u64(ntp_milliseconds(seconds_of(value), counted), text, at)
 }

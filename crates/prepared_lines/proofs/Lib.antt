@@ -1,0 +1,4 @@
+pub mod PlaceLemmas
+pub mod ShapeLemmas
+pub mod LineLemmas
+pub mod GrowLemmas
