@@ -229,9 +229,6 @@ module _ {S : Type 0} (left : S → Option (List Scripted)) (faults : S → ℕ)
 
   -- ---- what was said
 
-  say_here : {parties : List ℕ} (b c x : SaidSeen) (text : List ℕ) (said : Result (Unit {0}) OutsideFault) → b ≡ x → Said said b c text → Said said x c text
-  say_here b c x text said e s = subst (λ (y : SaidSeen). Said said y c text) e s
-
   one_line : (e : InputEnd) (f : Option OutsideFault) → input_line in_name e ++ sink_line out_name f ≡ (input_line in_name e ++ []) ++ ([] ++ (sink_line out_name f ++ []))
   one_line e f = ap (λ l. l ++ sink_line out_name f) (sym (append-nil (input_line in_name e))) ∙ ap (λ l. (input_line in_name e ++ []) ++ l) (sym (append-nil (sink_line out_name f)))
 
@@ -309,7 +306,7 @@ module _ {S : Type 0} (left : S → Option (List Scripted)) (faults : S → ℕ)
   )
 
   -- the text that failed, if one did
-  texts_counted : (a b c : Seen) (r : Refusal) → CountsTexts a.text b.text (Err {T = Unit {0}} r) → c.text ≡ b.text → (p : List ℕ) → TextKept (has p (failed_text (reason_of r))) (a.text p) (c.text p)
+  texts_counted : (a b c : Seen) (r : Refusal) → CountsTexts {T = Unit {0}} a.text b.text (Err r) → c.text ≡ b.text → (p : List ℕ) → TextKept (has p (failed_text (reason_of r))) (a.text p) (c.text p)
   texts_counted a b c (refusal.NoText name) o e p =
       subst (λ (f : List ℕ → TextSeen). TextKept (has p (name ∷ [])) (a.text p) (f p)) (sym e) (elim (same_or p name) [
         | inl x ↦ subst (λ q. TextKept (has q (name ∷ [])) (a.text q) (b.text q)) (sym x.1) (subst (λ h. TextKept h (a.text name) (b.text name)) (sym (failed_here name)) (record { octets = o.refuses.octets; faults = (o.refuses.later, o.refuses.rose) }))
@@ -355,7 +352,7 @@ module _ {S : Type 0} (left : S → Option (List Scripted)) (faults : S → ℕ)
   judged_code (refusal.BadElements name f) = refl
   judged_code refusal.Memory = refl
 
-  pub calls_judged : (file : List ℕ) (r : Refusal) (a b c : Seen) (status : ℕ) → Judges a.text file (Err (reason_of r)) → CountsTexts a.text b.text (Err {T = Unit {0}} r) → KeepsRest a b
+  pub calls_judged : (file : List ℕ) (r : Refusal) (a b c : Seen) (status : ℕ) → Judges a.text file (Err (reason_of r)) → CountsTexts {T = Unit {0}} a.text b.text (Err r) → KeepsRest a b
       → (said : Result (Unit {0}) OutsideFault) × Says b c (refusal_line r) said × (status ≡ max (refusal_code r) (wanted_code said)) → Calls left faults (Check file) a c status
   calls_judged file r a b c status judged counts keeps s =
       let places = s.1.rest.places ∙ keeps.places in
