@@ -39,10 +39,10 @@ pub by_name : {X : Type 0} (P : ℕ → Bool → X → X → Type 0) (name : Lis
 by_name {X} P name failed b old new none here away one others p =
     elim (same_or p name) [
       | inl s ↦ (let n : times p (name ∷ []) ≡ 1 = ap (λ c. cond c 1 0 + 0) s.0 in
-      let f : has p failed ≡ b = ap (λ q. has q failed) s.1 ∙ here in
-      subst (λ m. P m (has p failed) (old p) (new p)) (sym n) (subst (λ c. P 1 c (old p) (new p)) (sym f) (subst (λ q. P 1 b (old q) (new q)) (sym s.1) one)))
+          let f : has p failed ≡ b = ap (λ q. has q failed) s.1 ∙ here in
+          subst (λ m. P m (has p failed) (old p) (new p)) (sym n) (subst (λ c. P 1 c (old p) (new p)) (sym f) (subst (λ q. P 1 b (old q) (new q)) (sym s.1) one)))
       | inr d ↦ (let n : times p (name ∷ []) ≡ 0 = ap (λ c. cond c 1 0 + 0) d.0 in
-      subst (λ m. P m (has p failed) (old p) (new p)) (sym n) (subst (λ c. P 0 c (old p) (new p)) (sym (away p d.1)) (subst (λ (x : X). P 0 false (old p) x) (sym (others p d.1)) (none (old p)))))
+          subst (λ m. P m (has p failed) (old p) (new p)) (sym n) (subst (λ c. P 0 c (old p) (new p)) (sym (away p d.1)) (subst (λ (x : X). P 0 false (old p) x) (sym (others p d.1)) (none (old p)))))
     ]
 
 -- the one name that failed

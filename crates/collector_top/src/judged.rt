@@ -45,20 +45,11 @@ fn say_line<S: Site>(line: Result<Octets, AllocError>, site: &mut S) -> Result<(
 }
 
 /// Says the line of a refusal.
-fn say_refusal<S: Site>(
-    alloc: Global,
-    refusal: &Refusal,
-    site: &mut S,
-) -> Result<(), OutsideFault>
+fn say_refusal<S: Site>(alloc: Global, refusal: &Refusal, site: &mut S) -> Result<(), OutsideFault>
     ensures { Says (S.seen site.old) (S.seen site.new) (refusal_line refusal.now) result }
 {
     match refusal {
-        Refusal::NoText(name) => say_named(
-            alloc,
-            Piece::Source,
-            name.as_str().as_bytes(),
-            site,
-        ),
+        Refusal::NoText(name) => say_named(alloc, Piece::Source, name.as_str().as_bytes(), site),
         Refusal::BadDescription(fault) => say_line(description_line(alloc, fault), site),
         Refusal::BadElements(name, fault) => say_line(elements_line(alloc, name, fault), site),
         Refusal::Memory => say_piece(Piece::Memory, site),

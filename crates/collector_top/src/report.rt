@@ -69,11 +69,7 @@ fn say_run<S: Site>(alloc: Global, ended: Ended, site: &mut S) -> Result<(), Out
 }
 
 /// Says the line of a call that was refused before its run.
-fn say_unopened<S: Site>(
-    alloc: Global,
-    refusal: Unopened,
-    site: &mut S,
-) -> Result<(), OutsideFault>
+fn say_unopened<S: Site>(alloc: Global, refusal: Unopened, site: &mut S) -> Result<(), OutsideFault>
     ensures { Says (S.seen site.old) (S.seen site.new) (unopened_line refusal) result }
 {
     match refusal {

@@ -62,8 +62,7 @@ fn want_of_memory_gives_6_and_leaves_a_front(rt: HostRuntime) -> Result<(), Fail
     let status = collect_main(alloc, &words, &mut site);
     let printed = site.printed();
     assert!(rt;
-        status == 0 && printed.is_empty()
-            || status == 6 && is_of_memory(printed),
+        status == 0 && printed.is_empty() || status == 6 && is_of_memory(printed),
         "status {status}"
     );
     let shown = front_shown(&site).ok_or("no front of the lines")?;
