@@ -1,9 +1,10 @@
 #!/usr/bin/env python3
 """compare_direct.py PROGRAM [ROUNDS [SEED]]: holds `PROGRAM direct` to a second reader, written apart and slowly.
 
-Each round makes an IPFIX File out of templates, withdrawals, data sets and strange sets of a few domains, most of
-them right; many are then cut or changed in some octets. What `direct` answers and writes is compared with what
-RFC 7011 and docs/FORMATS.md say of the file, as tools/decoded.py reads it. The first file that differs is kept in the
+Each round makes an IPFIX File out of templates, options templates, withdrawals, data sets and strange sets of a few
+domains, most of them right, with elements of every type, elements that aren't known, elements that stand several times
+in a record, and values of every length; many files are then cut or changed in some octets. What `direct` answers and
+writes is compared with what RFC 7011 and docs/FORMATS.md say of the file, as tools/json_lines.py reads it. The first file that differs is kept in the
 system's folder for temporary files.
 """
 
@@ -14,52 +15,16 @@ import tempfile
 
 sys.dont_write_bytecode = True
 
-from decoded import VARIABLE, decoded, number
-
-NAMES = {1: "octetDeltaCount", 8: "sourceIPv4Address", 12: "destinationIPv4Address"}
-
-
-class NotBuilt(Exception):
-    """A decoded record whose text is not built yet."""
+from decoded import VARIABLE
+from json_lines import ELEMENTS, lines_of
 
 
-def text_of(element, value):
-    if element == 1 and 1 <= len(value) <= 8:
-        return str(number(value))
-    if element in (8, 12) and len(value) == 4:
-        return '"' + ".".join(str(octet) for octet in value) + '"'
-    return '"0x' + value.hex() + '"'
-
-
-def line_of(fields, values):
-    pairs = (f',"iana:{NAMES[element]}":{text_of(element, value)}' for (_, element, _), value in zip(fields, values))
-    return '{"@type":"ipfix.entry"' + "".join(pairs) + "}\n"
-
-
-def is_built(definition):
-    kind, _, fields = definition
-    elements = [(enterprise, element) for enterprise, element, _ in fields]
-    known = all(enterprise == 0 and element in NAMES for enterprise, element in elements)
-    return kind == 2 and known and len(set(elements)) == len(elements)
-
-
-def lines_of(stream):
-    """The lines of a stream."""
-    lines = []
-    for _, sets in decoded(stream):
-        for _, definition, records in sets or []:
-            if records and not is_built(definition):
-                raise NotBuilt
-            lines.extend(line_of(definition[2], values) for values in records or [])
-    return lines
-
-
-def answer_of(stream):
-    """The status of `direct`, what it prints, and what it writes."""
-    try:
-        return 0, b"", "".join(lines_of(stream)).encode()
-    except NotBuilt:
-        return 2, b"not built\n", b""
+# The usual lengths of values, by their types.
+USUAL = {
+    "unsigned8": 1, "unsigned16": 2, "unsigned32": 4, "unsigned64": 8, "signed8": 1, "signed16": 2, "signed32": 4, "signed64": 8,
+    "boolean": 1, "macAddress": 6, "ipv4Address": 4, "ipv6Address": 16, "dateTimeSeconds": 4, "dateTimeMilliseconds": 8,
+    "dateTimeMicroseconds": 8, "dateTimeNanoseconds": 8,
+}
 
 
 class Maker:
@@ -71,18 +36,18 @@ class Maker:
 
     def field(self):
         kind = self.random.random()
-        if kind < 0.03:
-            return (self.random.randrange(1, 9), self.random.choice([1, 8, 7]), self.random.randrange(0, 9))
         if kind < 0.05:
+            return (self.random.choice([1, 9, 29305, 4294967295]), self.random.choice([1, 8, 7, 210, 32767]), self.random.randrange(0, 9))
+        if kind < 0.10:
             return (0, self.random.randrange(0, 500), self.random.choice([0, 1, 4, VARIABLE]))
-        element = self.random.choice([1, 1, 8, 12])
-        usual = 4 if element != 1 else self.random.randrange(1, 9)
-        return (0, element, usual if self.random.random() < 0.7 else self.random.choice([0, 1, 5, 9, VARIABLE]))
+        element = self.random.choice(sorted(ELEMENTS))
+        usual = USUAL.get(ELEMENTS[element][1], VARIABLE)
+        return (0, element, usual if self.random.random() < 0.7 else self.random.choice([0, 1, 2, 4, 5, 8, 9, 16, VARIABLE]))
 
     def fields(self):
-        fields = [self.field() for _ in range(self.random.randrange(1, 4))]
-        if self.random.random() < 0.9:
-            fields = list({(enterprise, element): (enterprise, element, length) for enterprise, element, length in fields}.values())
+        fields = [self.field() for _ in range(self.random.choice([1, 2, 3, 3, 4, 8, 20]))]
+        if self.random.random() < 0.2:
+            fields.append(self.random.choice(fields))
         return fields
 
     def specifiers(self, fields):
@@ -97,7 +62,7 @@ class Maker:
         return set_id.to_bytes(2, "big") + (4 + len(body)).to_bytes(2, "big") + body
 
     def template_set(self, domain):
-        options = self.random.random() < 0.1
+        options = self.random.random() < 0.2
         body = b""
         for _ in range(self.random.randrange(1, 4)):
             template = self.random.randrange(256, 262)
@@ -113,12 +78,21 @@ class Maker:
         body += b"\0" * (self.random.choice([0, 0, 0, 1, 3, 4, 8]))
         return self.set_with(3 if options else 2, body)
 
+    def octets(self, length):
+        """Octets of a length: any, small ones, or letters and marks."""
+        kind = self.random.random()
+        if kind < 0.6:
+            return self.random.randbytes(length)
+        if kind < 0.8:
+            return bytes(self.random.choice([0, 0, 0, 1, 2, 255]) for _ in range(length))
+        return bytes(self.random.choice(b'ab"\\ /\x00\x01\x1f\xc3\xa9') for _ in range(length))
+
     def value(self, length):
         if length != VARIABLE:
-            return self.random.randbytes(length)
+            return self.octets(length)
         size = self.random.choice([0, 1, 4, 4, 8, 9, 254, 255, 300])
         long = size > 254 or self.random.random() < 0.2
-        return (b"\xff" + size.to_bytes(2, "big") if long else bytes([size])) + self.random.randbytes(size)
+        return (b"\xff" + size.to_bytes(2, "big") if long else bytes([size])) + self.octets(size)
 
     def data_set(self, domain):
         template = self.random.randrange(256, 262)
@@ -160,7 +134,6 @@ class Maker:
 
 def main(program, rounds, seed):
     maker = Maker(random.Random(seed))
-    came = {0: 0, 2: 0}
     lines = 0
     with tempfile.TemporaryDirectory() as folder:
         source, sink = f"{folder}/in.ipfix", f"{folder}/out.json"
@@ -172,15 +145,13 @@ def main(program, rounds, seed):
             done = subprocess.run([program, "direct", source, sink], capture_output=True, timeout=60)
             with open(sink, "rb") as file:
                 written = file.read()
-            wanted = answer_of(stream)
-            if (done.returncode, done.stdout, written) != wanted:
+            if (done.returncode, done.stdout, written) != (0, b"", "".join(lines_of(stream)).encode()):
                 with tempfile.NamedTemporaryFile(prefix="differs-", suffix=".ipfix", delete=False) as file:
                     file.write(stream)
-                print(f"round {turn}: status {done.returncode}, wanted {wanted[0]}; the file is {file.name}")
+                print(f"round {turn}: status {done.returncode}; the file is {file.name}")
                 return 1
-            came[done.returncode] += 1
             lines += written.count(b"\n")
-    print(f"{rounds} files alike: {came[0]} with status 0 and {lines} lines, {came[2]} not built")
+    print(f"{rounds} files alike, with {lines} lines")
     return 0
 
 

@@ -1,5 +1,5 @@
 -- What came of `check`.
-use Rattle.std.proofs.Common.{◌≡◌, ◌≢◌, ℕ, ◌+◌, ◌<◌, inl, inr, List, [], ◌∷◌, ◌++◌, length, take, drop, get_or, refl, ap, sym, subst, ◌∙◌, add-one, append-nil, take-suc, take-append-drop, arith}
+use Rattle.std.proofs.Common.{◌≡◌, ◌≢◌, ℕ, suc, ◌+◌, ◌<◌, inl, inr, List, [], ◌∷◌, ◌++◌, length, take, drop, get_or, refl, ap, sym, subst, ◌∙◌, add-one, drop-cons, take-suc, take-append-drop, arith}
 use Rattle.std.specs.Prelude.{Result, Ok, Err, bytes_eq}
 use Rattle.std.proofs.Math.Path.{fun_ext}
 use Rattle.std.proofs.lemmas.Bool.{cases_Bool}
@@ -9,20 +9,16 @@ use Rattle.text_spec.specs.Builtin.{builtin_rows}
 use Rattle.element_spec.specs.declared.fault.TableFault.{TableFault}
 use Rattle.element_spec.specs.Faults.{and_then}
 use Rattle.element_spec.specs.Table.{text_added, texts_added, element_table}
-use Rattle.site_io.specs.declared.outside.OutsideFault.{OutsideFault}
-use Rattle.site_io.specs.Seen.{TextSeen, SaidSeen}
+use Rattle.site_io.specs.Seen.{TextSeen}
 use Rattle.collector_top.specs.declared.verdict.Refusal.{Refusal}
 use Rattle.collector_top.specs.declared.verdict.Refusal.TheVariants as refusal
-use Rattle.collector_top.specs.Put.{PutsText}
-use Rattle.collector_top.specs.Report.{SaysLines}
-use Rattle.collector_top.specs.Check.{IsText, AreTexts, HasTable, Reaches, Breaks, JudgesFiles, AddsFile}
-use Rattle.collector_top.proofs.PutLemmas.{left_begins}
+use Rattle.call_spec.specs.Pairs.{Each}
+use Rattle.call_spec.specs.Texts.{IsText, AreTexts, HasTable, Reaches, Breaks}
+use Rattle.collector_top.specs.Check.{JudgesFiles, AddsFile}
 
--- a line that was said where memory was wanted
-pub says_wanting : (say now_say : SaidSeen) (lines : List ℕ) (r : Result (Unit {0}) OutsideFault) → PutsText say.said now_say.said lines r → SaysLines say now_say 6 lines
-says_wanting say now_say lines (Ok done) p =
-    record { front = record { written = lines; rest = []; whole = sym (append-nil lines); grows = p }; whole = λ other. absurd (other refl); quiet = λ e. absurd (omega (arith, e)) }
-says_wanting say now_say lines (Err fault) p = record { front = p; whole = λ other. absurd (other refl); quiet = λ e. absurd (omega (arith, e)) }
+-- what is left begins with this item
+left_begins : {X : Type 0} (items : List X) (i : ℕ) (item : X) → i < length items → item ≡ get_or items i item → drop i items ≡ item ∷ drop (i + 1) items
+left_begins items i item lt is = drop-cons items i item lt ∙ (ap (λ x. x ∷ drop (suc i) items) (sym is) ∙ ap (λ j. item ∷ drop j items) (sym (add-one i)))
 
 -- all texts are as they were, where this one is and the others are
 pub texts_same : (name : List ℕ) (old new : List ℕ → TextSeen) → new name ≡ old name → ((other : List ℕ) → other ≢ name → new other ≡ old other) → new ≡ old
@@ -55,11 +51,15 @@ table_more : (all : List (List ℕ)) (octets : List ℕ) (rows : List Element) �
 unfolding element_table
 table_more all octets rows is = added_more builtin_rows all octets ∙ ap (λ (r : Result (List Element) TableFault). and_then r (λ longer. text_added longer octets)) is
 
+texts_from : (text : List ℕ → TextSeen) (n : ℕ) (names : List (List ℕ)) (name : List ℕ) (all : List (List ℕ)) (octets : List ℕ) → Each (λ _ x o. IsText text x o) n names all → IsText text name octets
+    → Each (λ _ x o. IsText text x o) n (names ++ name ∷ []) (all ++ octets ∷ [])
+texts_from text n [] name [] octets are is = (is, tt)
+texts_from text n [] name (o ∷ all) octets are is = absurd are
+texts_from text n (x ∷ names) name [] octets are is = absurd are
+texts_from text n (x ∷ names) name (o ∷ all) octets are is = (are.0, texts_from text (suc n) names name all octets are.1 is)
+
 texts_more : (text : List ℕ → TextSeen) (names : List (List ℕ)) (name : List ℕ) (all : List (List ℕ)) (octets : List ℕ) → AreTexts text names all → IsText text name octets → AreTexts text (names ++ name ∷ []) (all ++ octets ∷ [])
-texts_more text [] name [] octets are is = (is, tt)
-texts_more text [] name (o ∷ all) octets are is = absurd are
-texts_more text (n ∷ names) name [] octets are is = absurd are
-texts_more text (n ∷ names) name (o ∷ all) octets are is = (are.0, texts_more text names name all octets are.1 is)
+texts_more text names name all octets are is = texts_from text 0 names name all octets are is
 
 -- no element file was read yet
 pub files_first : (text : List ℕ → TextSeen) (rows : List Element) → rows ≡ builtin_rows → HasTable text [] rows

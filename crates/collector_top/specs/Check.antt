@@ -1,61 +1,44 @@
--- What `check` promises.
-use Rattle.std.specs.Prelude.{ℕ, ◌≡◌, ◌≢◌, ◌⊎◌, ⊤, List, [], ◌∷◌, ◌++◌, Result, Ok, Err, IfSome}
+-- What came of the steps of `check`.
+use Rattle.std.specs.Prelude.{ℕ, ◌≡◌, ◌≢◌, ⊤, List, Result, Ok, Err}
 use Rattle.text_spec.specs.declared.element.Element.{Element}
-use Rattle.config_spec.specs.declared.conf.Conf.{Conf}
+use Rattle.config_spec.specs.First.{fault_text}
 use Rattle.config_spec.specs.Description.{description}
-use Rattle.element_spec.specs.declared.fault.TableFault.{TableFault}
-use Rattle.element_spec.specs.Table.{element_table, text_added}
-use Rattle.words_spec.specs.Commands.{Command}
-use Rattle.words_spec.specs.Commands.Command.{Direct, Check, Collect, Generate, Refused}
-use Rattle.site_io.specs.declared.outside.OutsideFault.{OutsideFault}
-use Rattle.site_io.specs.Outside.{Counts}
-use Rattle.site_io.specs.Seen.{Seen, TextSeen, TextRefuses, ChangesSay}
+use Rattle.element_spec.specs.Faults as elements
+use Rattle.element_spec.specs.Table.{text_added}
+use Rattle.site_io.specs.Seen.{Seen, TextSeen, TextRefuses}
+use Rattle.call_spec.specs.Came.{Refusal as Reason}
+use Rattle.call_spec.specs.Came.Refusal.{NoText, BadDescription, BadElements, NoMemory}
+use Rattle.call_spec.specs.Texts.{IsText, HasTable, Reaches, Breaks, Judges}
+use Rattle.call_spec.specs.Lines.{fine_text, memory_text, named_line, source_start, description_start, elements_head}
 use Rattle.collector_top.specs.declared.verdict.Refusal.{Refusal}
 use Rattle.collector_top.specs.declared.verdict.Refusal.TheVariants as refusal
-use Rattle.collector_top.specs.Direct.{Directs}
-use Rattle.collector_top.specs.Put.{PutsText}
-use Rattle.collector_top.specs.Report.{TellsStatus, usage_text}
-use Rattle.collector_top.specs.Verdict.{verdict_status, silent_verdict, SaysVerdict}
 
--- the octets of a text, where they are told
-abbrev pub IsText : (List ℕ → TextSeen) → List ℕ → List ℕ → Type 0
-IsText text name octets = IfSome (text name).octets (λ known. octets ≡ known)
+abbrev pub reason_of : Refusal → Reason
+reason_of (refusal.NoText name) = NoText name
+reason_of (refusal.BadDescription fault) = BadDescription fault
+reason_of (refusal.BadElements name fault) = BadElements name fault
+reason_of refusal.Memory = NoMemory
 
--- the octets of the texts of these names, in order
-abbrev pub AreTexts : (List ℕ → TextSeen) → List (List ℕ) → List (List ℕ) → Type 0
-AreTexts text [] [] = ⊤
-AreTexts text [] (octets ∷ all) = ⊥
-AreTexts text (name ∷ names) [] = ⊥
-AreTexts text (name ∷ names) (octets ∷ all) = IsText text name octets × AreTexts text names all
+-- a verdict as the definitions have it
+abbrev pub meant : Result (Unit {0}) Refusal → Result (Unit {0}) Reason
+meant (Ok done) = Ok done
+meant (Err r) = Err (reason_of r)
 
--- FILE has this description
-abbrev pub Describes : (List ℕ → TextSeen) → List ℕ → Conf → Type 0
-Describes text file conf = (octets : List ℕ) × IsText text file octets × (description octets ≡ Ok conf)
+abbrev pub refusal_line : Refusal → List ℕ
+refusal_line (refusal.NoText name) = named_line source_start name
+refusal_line (refusal.BadDescription fault) = named_line description_start (fault_text fault)
+refusal_line (refusal.BadElements name fault) = named_line (elements_head name) (elements.fault_text fault)
+refusal_line refusal.Memory = memory_text
 
--- these element files, behind the built-in rows, have these rows
-abbrev pub HasTable : (List ℕ → TextSeen) → List (List ℕ) → List Element → Type 0
-HasTable text names rows = (all : List (List ℕ)) × AreTexts text names all × (element_table all ≡ Ok rows)
+abbrev pub verdict_line : Result (Unit {0}) Refusal → List ℕ
+verdict_line (Ok done) = fine_text
+verdict_line (Err r) = refusal_line r
 
--- the element files before this one have no fault
-pub record Reaches (text : List ℕ → TextSeen) (names : List (List ℕ)) (name : List ℕ) : Type 0 where
-  pub before : List (List ℕ)
-  pub after : List (List ℕ)
-  pub whole : names ≡ before ++ name ∷ after
-  pub rows : List Element
-  pub table : HasTable text before rows
-
--- nor does their table, and with this one it has this fault
-pub record Breaks (text : List ℕ → TextSeen) (names : List (List ℕ)) (name : List ℕ) (fault : TableFault) : Type 0 where
-  pub before : List (List ℕ)
-  pub after : List (List ℕ)
-  pub whole : names ≡ before ++ name ∷ after
-  pub all : List (List ℕ)
-  pub last : List ℕ
-  pub are : AreTexts text before all
-  pub is : IsText text name last
-  pub rows : List Element
-  pub table : element_table all ≡ Ok rows
-  pub broken : element_table (all ++ last ∷ []) ≡ Err fault
+abbrev pub refusal_code : Refusal → ℕ
+refusal_code (refusal.NoText name) = 3
+refusal_code (refusal.BadDescription fault) = 2
+refusal_code (refusal.BadElements name fault) = 2
+refusal_code refusal.Memory = 6
 
 -- what came of element files in order
 abbrev pub JudgesFiles : (List ℕ → TextSeen) → List (List ℕ) → Result (Unit {0}) Refusal → Type 0
@@ -64,14 +47,6 @@ JudgesFiles text names (Err (refusal.NoText name)) = Reaches text names name
 JudgesFiles text names (Err (refusal.BadDescription fault)) = ⊥
 JudgesFiles text names (Err (refusal.BadElements name fault)) = Breaks text names name fault
 JudgesFiles text names (Err refusal.Memory) = ⊤
-
--- what came of FILE and the element files that its description names: the first fault, or none; want of memory may come at any place
-abbrev pub Judges : (List ℕ → TextSeen) → List ℕ → Result (Unit {0}) Refusal → Type 0
-Judges text file (Ok done) = (conf : Conf) × Describes text file conf × ((rows : List Element) × HasTable text conf.elements rows)
-Judges text file (Err (refusal.NoText name)) = (name ≡ file) ⊎ ((conf : Conf) × Describes text file conf × Reaches text conf.elements name)
-Judges text file (Err (refusal.BadDescription fault)) = (octets : List ℕ) × IsText text file octets × (description octets ≡ Err fault)
-Judges text file (Err (refusal.BadElements name fault)) = (conf : Conf) × Describes text file conf × Breaks text conf.elements name fault
-Judges text file (Err refusal.Memory) = ⊤
 
 -- that text failed, and no other has changed
 pub record OneFails (name : List ℕ) (old new : List ℕ → TextSeen) : Type 0 where
@@ -121,29 +96,3 @@ AddsFile text name rows now (Err (refusal.NoText n)) = n ≡ name
 AddsFile text name rows now (Err (refusal.BadDescription fault)) = ⊥
 AddsFile text name rows now (Err (refusal.BadElements n fault)) = (n ≡ name) × ((octets : List ℕ) × IsText text name octets × (text_added rows octets ≡ Err fault))
 AddsFile text name rows now (Err refusal.Memory) = ⊤
-
--- what came of a call of `check` gives its status and the line that it prints; it opens nothing
-pub record Checks (file : List ℕ) (old new : Seen) (status : ℕ) : Type 0 where
-  pub verdict : Result (Unit {0}) Refusal
-  pub judged : Judges old.text file verdict
-  pub texts : CountsTexts old.text new.text verdict
-  pub places : new.place ≡ old.place
-  pub sinks : new.sink ≡ old.sink
-  pub so : TellsStatus (verdict_status verdict) (silent_verdict verdict) old.say new.say status
-  pub said : SaysVerdict verdict old.say new.say status
-  pub never_usage : status ≡ 1 → ⊥
-
--- words are refused: the usage line was printed, or a front of it where printing failed or memory was wanted, and nothing else has changed
-pub record Refuses (old new : Seen) : Type 0 where
-  pub others : ChangesSay old new
-  pub answer : Result (Unit {0}) OutsideFault
-  pub counts : Counts old.say.faults new.say.faults answer
-  pub said : PutsText old.say.said new.say.said usage_text answer
-
--- what the words ask for is done, or they are refused, as those of what isn't built yet are
-abbrev pub Serves : Command → Seen → Seen → ℕ → Type 0
-Serves (Direct place out) old new status = Directs place out old new status
-Serves (Check file) old new status = Checks file old new status
-Serves (Collect file) old new status = Refuses old new
-Serves (Generate number count) old new status = Refuses old new
-Serves Refused old new status = Refuses old new

@@ -1,14 +1,4 @@
-pub mod Reading
-pub mod Printed
-pub mod Built
-pub mod TemplateRecords
-pub mod DomainTemplates
-pub mod SessionTemplates
-pub mod Session
-pub mod Put
-pub mod Report
+pub mod Says
 pub mod Direct
 pub mod Words
-pub mod Pieces
-pub mod Verdict
 pub mod Check

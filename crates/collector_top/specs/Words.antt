@@ -1,5 +1,4 @@
 -- What words ask for, as the code has it.
-use Rattle.std.specs.Prelude.{Bool, true, false}
 use Rattle.words_spec.specs.Commands.{Command as Meant}
 use Rattle.words_spec.specs.Commands.Command.{Direct, Check, Collect, Generate, Refused}
 use Rattle.collector_top.specs.declared.words.Command.{Command}
@@ -12,11 +11,3 @@ told (asked.Check file) = Check file.now
 told (asked.Collect file) = Collect file.now
 told (asked.Generate number count) = Generate number count
 told asked.Refused = Refused
-
--- which commands are built
-abbrev pub is_served : Meant → Bool
-is_served (Direct place out) = true
-is_served (Check file) = true
-is_served (Collect file) = false
-is_served (Generate number count) = false
-is_served Refused = false

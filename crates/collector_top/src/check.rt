@@ -1,9 +1,13 @@
 // The command `check`: a description and its element files are read and judged, and nothing is opened.
 ghost use Rattle.std.specs.Prelude.{◌≡◌, Ok, IfOk, IfErr};
 ghost use Rattle.config_spec.specs.Description.{description};
-ghost use Rattle.collector_top.specs.Check.{IsText, IsUnread, HasFault, AddsText, AddsFile, JudgesFiles, Judges, CountsTexts, KeepsRest, Checks};
+ghost use Rattle.words_spec.specs.Commands.Command.{Check};
+ghost use Rattle.call_spec.specs.Texts.{IsText, Judges};
+ghost use Rattle.call_spec.specs.Call.{Calls};
+ghost use Rattle.collector_top.specs.Check.{IsUnread, HasFault, AddsText, AddsFile, JudgesFiles, meant, CountsTexts, KeepsRest};
 
-use crate::verdict::{Refusal, tell};
+use crate::judged::{report_fine, report_refusal};
+use crate::verdict::Refusal;
 use col_base::{Octets, Text};
 use element_table::{Elements, TableFault};
 use site_io::{OutsideFault, Site};
@@ -84,7 +88,7 @@ fn judge_files<S: Site>(alloc: Global, names: &[Text], site: &mut S) -> Result<(
 
 /// Judges a description and its element files.
 fn judge<S: Site>(alloc: Global, file: &str, site: &mut S) -> Result<(), Refusal>
-    ensures judged { Judges (S.seen site.old).text file.now result }
+    ensures judged { Judges (S.seen site.old).text file.now (meant result) }
     ensures texts { CountsTexts (S.seen site.old).text (S.seen site.new).text result }
     ensures rest { KeepsRest (S.seen site.old) (S.seen site.new) }
 {
@@ -99,8 +103,10 @@ fn judge<S: Site>(alloc: Global, file: &str, site: &mut S) -> Result<(), Refusal
 /// The status is 0 where there is no fault; 2 where the description or an element file has one; 3 where a text
 /// failed; 4 where there is no fault and `ok` could not be printed; 6 where memory was wanted.
 pub fn check_run<S: Site>(alloc: Global, name: &str, site: &mut S) -> u8
-    ensures { Checks name.now (S.seen site.old) (S.seen site.new) result }
+    ensures { Calls S.Src.left S.Src.faults (Check name.now) (S.seen site.old) (S.seen site.new) result }
 {
-    let verdict = judge(alloc, name, site);
-    tell(alloc, site, &verdict)
+    match judge(alloc, name, site) {
+        Ok(()) => report_fine(site),
+        Err(refusal) => report_refusal(alloc, &refusal, site),
+    }
 }

@@ -1,152 +1,154 @@
-// What a call tells: its lines and its status.
-ghost use Rattle.std.specs.Prelude.{◌≡◌, ◌≢◌, ◌++◌};
-ghost use Rattle.site_io.specs.Outside.{Counts};
-ghost use Rattle.site_io.specs.Seen.{ChangesSay};
-ghost use Rattle.collector_top.specs.Put.{PutsText};
-ghost use Rattle.collector_top.specs.Report.{line_text, sink_text, end_text, outcome_text, run_status, outcome_status, silent_status, HasStatus, SaysLines};
+// The lines and the status of `direct`.
+ghost use Rattle.std.specs.Prelude.{◌≡◌, ◌++◌, Result, max};
+ghost use Rattle.site_io.specs.declared.outside.OutsideFault.{OutsideFault};
+ghost use Rattle.call_spec.specs.Lines.{input_line, sink_line};
+ghost use Rattle.call_spec.specs.Status.{end_code, fault_code, said_code, wanted_code};
+ghost use Rattle.call_spec.specs.Call.{in_name, out_name};
+ghost use Rattle.collector_top.specs.Says.{Says};
+ghost use Rattle.collector_top.specs.Direct.{unopened_line, unopened_code};
 
-use crate::direct::Outcome;
-use crate::reading::ReadEnd;
+use crate::direct::Unopened;
+use crate::say::{Piece, say_named, say_piece};
+use call_spec::InputEnd;
+use file_lines::Ended;
 use site_io::{OutsideFault, Site};
+use std::alloc::Global;
 
-/// A line that a call prints.
-#[derive(Clone, Copy, PartialEq, Eq)]
-pub enum Line {
-    Usage,
-    NotBuilt,
-    SourceFault,
-    SinkFault,
-    Limit,
-    Memory,
-}
-
-impl Line {
-    /// The octets of the line.
-    #[tactic(auto, unfolding(crate::specs::Report::usage_text, crate::specs::Report::not_built_text, crate::specs::Report::source_text, crate::specs::Report::sink_text, crate::specs::Report::limit_text, crate::specs::Report::memory_text))]
-    pub fn text(self) -> &'static [u8]
-        ensures { result.now ≡ line_text self }
-    {
-        match self {
-            Line::Usage =>
-                b"usage: ipfixcol direct IN OUT, check -c FILE, collect -c FILE, generate NUMBER COUNT\n",
-            Line::NotBuilt => b"not built\n",
-            Line::SourceFault => b"source fault: in\n",
-            Line::SinkFault => b"sink fault: out\n",
-            Line::Limit => b"limit: in\n",
-            Line::Memory => b"memory\n",
-        }
-    }
-}
-
-/// Prints octets.
-pub fn say_octets<S: Site>(site: &mut S, octets: &[u8]) -> Result<(), OutsideFault>
-    ensures others { ChangesSay (S.seen site.old) (S.seen site.new) }
-    ensures counts { Counts (S.seen site.old).say.faults (S.seen site.new).say.faults result }
-    ensures said { PutsText (S.seen site.old).say.said (S.seen site.new).say.said octets.now result }
+/// The name of the input in lines.
+#[tactic(auto, unfolding(call_spec::specs::Call::in_name))]
+fn in_name() -> &'static [u8]
+    ensures { result.now ≡ in_name }
 {
-    site.say(octets)
+    b"in"
 }
 
-/// Prints a line.
-pub fn say_line<S: Site>(site: &mut S, line: Line) -> Result<(), OutsideFault>
-    ensures others { ChangesSay (S.seen site.old) (S.seen site.new) }
-    ensures counts { Counts (S.seen site.old).say.faults (S.seen site.new).say.faults result }
-    ensures said { PutsText (S.seen site.old).say.said (S.seen site.new).say.said (line_text line) result }
+/// The name of the output in lines.
+#[tactic(auto, unfolding(call_spec::specs::Call::out_name))]
+fn out_name() -> &'static [u8]
+    ensures { result.now ≡ out_name }
 {
-    say_octets(site, line.text())
+    b"out"
 }
 
-/// Prints the line of an input whose reading ended so, if it has one.
-fn say_end<S: Site>(site: &mut S, end: ReadEnd) -> Result<(), OutsideFault>
-    ensures others { ChangesSay (S.seen site.old) (S.seen site.new) }
-    ensures counts { Counts (S.seen site.old).say.faults (S.seen site.new).say.faults result }
-    ensures said { PutsText (S.seen site.old).say.said (S.seen site.new).say.said (end_text end) result }
+/// Says the line of an input that ended so, if it has one.
+fn say_input<S: Site>(alloc: Global, end: InputEnd, site: &mut S) -> Result<(), OutsideFault>
+    ensures { Says (S.seen site.old) (S.seen site.new) (input_line in_name end) result }
 {
     match end {
-        ReadEnd::End => Ok(()),
-        ReadEnd::Fault => say_line(site, Line::SourceFault),
-        ReadEnd::Limit => say_line(site, Line::Limit),
-        ReadEnd::Memory => say_line(site, Line::Memory),
+        InputEnd::End => Ok(()),
+        InputEnd::Failed => say_named(alloc, Piece::Source, in_name(), site),
+        InputEnd::Limit => say_named(alloc, Piece::Limit, in_name(), site),
+        InputEnd::Memory => say_named(alloc, Piece::Wanting, in_name(), site),
+        InputEnd::NotBuilt => say_piece(Piece::NotBuilt, site),
     }
 }
 
-/// Prints the line of such an input, and that of an output that failed.
-fn say_both<S: Site>(site: &mut S, end: ReadEnd) -> Result<(), OutsideFault>
-    ensures others { ChangesSay (S.seen site.old) (S.seen site.new) }
-    ensures counts { Counts (S.seen site.old).say.faults (S.seen site.new).say.faults result }
-    ensures said { PutsText (S.seen site.old).say.said (S.seen site.new).say.said (end_text end ++ sink_text) result }
+/// Says the line of an output that ended so, if it has one.
+fn say_output<S: Site>(
+    alloc: Global,
+    fault: Option<OutsideFault>,
+    site: &mut S,
+) -> Result<(), OutsideFault>
+    ensures { Says (S.seen site.old) (S.seen site.new) (sink_line out_name fault) result }
 {
-    match say_end(site, end) {
-        Ok(()) => say_line(site, Line::SinkFault),
+    match fault {
+        None => Ok(()),
+        Some(OutsideFault::Failed) => say_named(alloc, Piece::Sink, out_name(), site),
+        Some(OutsideFault::NoMemory) => say_named(alloc, Piece::Wanting, out_name(), site),
+    }
+}
+
+/// Says the lines of a run: that of the input, and then that of the output.
+fn say_run<S: Site>(alloc: Global, ended: Ended, site: &mut S) -> Result<(), OutsideFault>
+    ensures { Says (S.seen site.old) (S.seen site.new) (input_line in_name ended.input ++ sink_line out_name ended.output) result }
+{
+    match say_input(alloc, ended.input, site) {
+        Ok(()) => say_output(alloc, ended.output, site),
         Err(fault) => Err(fault),
     }
 }
 
-/// Prints the lines of what came of a call.
-fn say_outcome<S: Site>(site: &mut S, outcome: Outcome) -> Result<(), OutsideFault>
-    ensures others { ChangesSay (S.seen site.old) (S.seen site.new) }
-    ensures counts { Counts (S.seen site.old).say.faults (S.seen site.new).say.faults result }
-    ensures said { PutsText (S.seen site.old).say.said (S.seen site.new).say.said (outcome_text outcome) result }
+/// Says the line of a call that was refused before its run.
+fn say_unopened<S: Site>(alloc: Global, refusal: Unopened, site: &mut S) -> Result<(), OutsideFault>
+    ensures { Says (S.seen site.old) (S.seen site.new) (unopened_line refusal) result }
 {
-    match outcome {
-        Outcome::Memory => say_line(site, Line::Memory),
-        Outcome::NoSource => say_line(site, Line::SourceFault),
-        Outcome::NoSink => say_line(site, Line::SinkFault),
-        Outcome::NotBuilt(_) => say_line(site, Line::NotBuilt),
-        Outcome::Written(end) => say_end(site, end),
-        Outcome::SinkFailed(end) => say_both(site, end),
+    match refusal {
+        Unopened::NoSource => say_input(alloc, InputEnd::Failed, site),
+        Unopened::NoSink => say_output(alloc, Some(OutsideFault::Failed), site),
+        Unopened::Memory => say_piece(Piece::Memory, site),
     }
 }
 
-/// The status of a run in which the reading ended so, and the sink failed or not: memory before a limit, that
-/// before the sink's fault, and that before the source's.
-fn run_status(end: ReadEnd, sink_failed: bool) -> u8
-    ensures { result ≡ run_status end sink_failed }
+fn end_code(end: InputEnd) -> u8
+    ensures { result ≡ end_code end }
 {
     match end {
-        ReadEnd::Memory => 6,
-        ReadEnd::Limit => 5,
-        ReadEnd::Fault => { if sink_failed { 4 } else { 3 } }
-        ReadEnd::End => { if sink_failed { 4 } else { 0 } }
+        InputEnd::End => 0,
+        InputEnd::Failed => 3,
+        InputEnd::Limit => 5,
+        InputEnd::Memory => 6,
+        InputEnd::NotBuilt => 2,
     }
 }
 
-/// The status of what came of a call.
-fn outcome_status(outcome: Outcome) -> u8
-    ensures { result ≡ outcome_status outcome }
+fn fault_code(fault: Option<OutsideFault>) -> u8
+    ensures { result ≡ fault_code fault }
 {
-    match outcome {
-        Outcome::Memory => 6,
-        Outcome::NoSource => 3,
-        Outcome::NoSink => 4,
-        Outcome::NotBuilt(_) => 2,
-        Outcome::Written(end) => run_status(end, false),
-        Outcome::SinkFailed(end) => run_status(end, true),
+    match fault {
+        None => 0,
+        Some(OutsideFault::Failed) => 4,
+        Some(OutsideFault::NoMemory) => 6,
     }
 }
 
-/// The status where a line could not be printed: 4 for a run, unless 5 or 6 came; a call that was refused before
-/// its run keeps its own.
-fn silent_status(outcome: Outcome) -> u8
-    ensures status { result ≡ silent_status outcome }
-    ensures some { result ≢ 0 }
+/// What saying the lines of a run gives to its status.
+pub fn said_code(said: Result<(), OutsideFault>) -> u8
+    ensures { result ≡ said_code said }
 {
-    let status = outcome_status(outcome);
-    match outcome {
-        Outcome::Written(_) | Outcome::SinkFailed(_) => { if status < 5 { 4 } else { status } }
-        Outcome::Memory | Outcome::NoSource | Outcome::NoSink | Outcome::NotBuilt(_) => status,
-    }
-}
-
-/// Prints the lines of what came of a call, and answers its status.
-pub fn report<S: Site>(site: &mut S, outcome: Outcome) -> u8
-    ensures others { ChangesSay (S.seen site.old) (S.seen site.new) }
-    ensures status { HasStatus outcome (S.seen site.old).say (S.seen site.new).say result }
-    ensures said { SaysLines (S.seen site.old).say (S.seen site.new).say result (outcome_text outcome) }
-{
-    match say_outcome(site, outcome) {
-        Ok(()) => outcome_status(outcome),
+    match said {
+        Ok(()) => 0,
+        Err(OutsideFault::Failed) => 4,
         Err(OutsideFault::NoMemory) => 6,
-        Err(OutsideFault::Failed) => silent_status(outcome),
     }
+}
+
+/// What saying the line of a call without a run gives to its status: a fault changes none that was set before.
+pub fn wanted_code(said: Result<(), OutsideFault>) -> u8
+    ensures { result ≡ wanted_code said }
+{
+    match said {
+        Ok(()) | Err(OutsideFault::Failed) => 0,
+        Err(OutsideFault::NoMemory) => 6,
+    }
+}
+
+fn unopened_code(refusal: Unopened) -> u8
+    ensures { result ≡ unopened_code refusal }
+{
+    match refusal {
+        Unopened::NoSource => 3,
+        Unopened::NoSink => 4,
+        Unopened::Memory => 6,
+    }
+}
+
+/// Says the lines of a run, and answers its status: the greatest of what came to the input, to the output, and of
+/// saying the lines.
+pub fn report_run<S: Site>(alloc: Global, ended: Ended, site: &mut S) -> u8
+    ensures { (said : Result (Unit {0}) OutsideFault) × Says (S.seen site.old) (S.seen site.new) (input_line in_name ended.input ++ sink_line out_name ended.output) said
+        × (result ≡ max (max (end_code ended.input) (fault_code ended.output)) (said_code said)) }
+{
+    let said = say_run(alloc, ended, site);
+    end_code(ended.input)
+        .max(fault_code(ended.output))
+        .max(said_code(said))
+}
+
+/// Says the line of a call that was refused before its run, and answers its status.
+pub fn report_unopened<S: Site>(alloc: Global, refusal: Unopened, site: &mut S) -> u8
+    ensures { (said : Result (Unit {0}) OutsideFault) × Says (S.seen site.old) (S.seen site.new) (unopened_line refusal) said
+        × (result ≡ max (unopened_code refusal) (wanted_code said)) }
+{
+    let said = say_unopened(alloc, refusal, site);
+    unopened_code(refusal).max(wanted_code(said))
 }

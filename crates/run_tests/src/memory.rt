@@ -41,6 +41,14 @@ fn front_shown(site: &MemorySite) -> Option<usize> {
     if is_front { Some(shown.len()) } else { None }
 }
 
+/// Whether a line on memory was printed, or none.
+fn is_of_memory(printed: &[u8]) -> bool {
+    printed.is_empty()
+        || printed == b"memory\n".as_slice()
+        || printed == b"memory: in\n".as_slice()
+        || printed == b"memory: out\n".as_slice()
+}
+
 /// Where an allocation fails, as `rt try --test --fail-alloc` lets it, the status is 6 and the sink has a front of
 /// the text.
 #[test]
@@ -54,8 +62,7 @@ fn want_of_memory_gives_6_and_leaves_a_front(rt: HostRuntime) -> Result<(), Fail
     let status = collect_main(alloc, &words, &mut site);
     let printed = site.printed();
     assert!(rt;
-        status == 0 && printed.is_empty()
-            || status == 6 && (printed.is_empty() || printed == b"memory\n".as_slice()),
+        status == 0 && printed.is_empty() || status == 6 && is_of_memory(printed),
         "status {status}"
     );
     let shown = front_shown(&site).ok_or("no front of the lines")?;

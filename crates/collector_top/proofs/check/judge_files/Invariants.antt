@@ -1,5 +1,6 @@
 use Rattle.std.proofs.Common.{◌≡◌, take}
-use Rattle.collector_top.specs.Check.{HasTable, KeepsRest}
+use Rattle.call_spec.specs.Texts.{HasTable}
+use Rattle.collector_top.specs.Check.{KeepsRest}
 use Rattle.collector_top.proofs.check.judge_files.Given as goal
 
 abbrev pub invariant-loop-name : goal.invariant-loop-name

@@ -1,12 +1,11 @@
-use Rattle.collector_top.proofs.ReportLemmas.{reports_said, leaves_reported}
+use Rattle.collector_top.proofs.CallLemmas.{calls_ran, calls_refused}
 use Rattle.collector_top.proofs.direct.direct_run.Goals as goal
 
-pub returns-clause-reports : goal.returns-clause-reports
-returns-clause-reports g c =
-    let ran = c.run-outcome.ensures in
-    let told = c.report.ensures in
-    reports_said c.args.place.now c.args.out.now (g.S.Site.seen c.args.site.now) (g.S.Site.seen c.run-outcome.new.site) (g.S.Site.seen c.report.new.site) c.run-outcome.result c.report.result ran.leaves
-    ran.shows.counts ran.others.say told.others told.status told.said
+pub returns-in-Ok : goal.returns-in-Ok
+returns-in-Ok g c =
+    calls_ran g.S.Src.Source.left g.S.Src.Source.faults c.args.place.now c.args.out.now c.in-Ok.ended (g.S.Site.seen c.args.site.now) (g.S.Site.seen c.run.new.site) (g.S.Site.seen c.report_run.new.site) c.report_run.result c.in-Ok.ensures.ran c.report_run.ensures
 
-pub returns-clause-leaves : goal.returns-clause-leaves
-returns-clause-leaves g c = leaves_reported _ _ _ _ _ _ _ (returns-clause-reports g c)
+pub returns-in-Err : goal.returns-in-Err
+returns-in-Err g c =
+    calls_refused g.S.Src.Source.left g.S.Src.Source.faults c.args.place.now c.args.out.now c.in-Err.refusal (g.S.Site.seen c.args.site.now) (g.S.Site.seen c.run.new.site) (g.S.Site.seen c.report_unopened.new.site) c.report_unopened.result c.in-Err.ensures.refused
+    c.report_unopened.ensures

@@ -1,0 +1,53 @@
+-- What may come of a call.
+use Rattle.std.specs.Prelude.{ℕ, List, ◌++◌, Option}
+use Rattle.arrival_spec.specs.declared.event.Scripted.{Scripted}
+use Rattle.config_spec.specs.declared.fault.ConfFault.{ConfFault}
+use Rattle.element_spec.specs.declared.fault.TableFault.{TableFault}
+use Rattle.site_io.specs.declared.outside.OutsideFault.{OutsideFault}
+use Rattle.call_spec.specs.declared.end.InputEnd.{InputEnd}
+
+-- an input or an output: its name in lines, and its place or its sink's name
+pub record Party : Type 0 where
+  pub name : List ℕ
+  pub at : List ℕ
+
+-- the inputs, the sink name of the order log, if there is one, and the outputs, in the order in which they are opened
+pub record Parties : Type 0 where
+  pub inputs : List Party
+  pub log : Option (List ℕ)
+  pub outputs : List Party
+
+-- why a call is refused before its run: the text of this name failed; the description, or the element table of this name,
+-- has this fault; the source of this input, the log's sink or the sink of this output could not be opened; memory was wanted
+pub data Refusal : Type 0 where
+  NoText : List ℕ → Refusal
+  BadDescription : ConfFault → Refusal
+  BadElements : List ℕ → TableFault → Refusal
+  NoSource : ℕ → Refusal
+  NoLog : Refusal
+  NoOutput : ℕ → Refusal
+  NoMemory : Refusal
+
+-- the events that an input gave, an event behind them that isn't built, if one came, and how it ended
+pub record InputCame : Type 0 where
+  pub given : List Scripted
+  pub beyond : List Scripted
+  pub end : InputEnd
+
+abbrev pub taken_of : InputCame → List Scripted
+taken_of came = came.given ++ came.beyond
+
+-- a run: what each input gave, and why the log and each output ended, if they did
+pub record RunCame : Type 0 where
+  pub inputs : List InputCame
+  pub log : Option OutsideFault
+  pub outputs : List (Option OutsideFault)
+
+pub data Came : Type 0 where
+  -- the words were refused
+  BadWords : Came
+  -- there was no fault to tell, and nothing to run
+  Fine : Came
+  -- the call was refused before its run, after so many places and sinks were tried
+  Refused : Refusal → (places sinks : ℕ) → Came
+  Ran : RunCame → Came

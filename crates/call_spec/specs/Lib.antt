@@ -1,0 +1,11 @@
+pub mod Pairs
+pub mod Names
+pub mod Counts
+pub mod Built
+pub mod Ends
+pub mod Came
+pub mod Lines
+pub mod Status
+pub mod Texts
+pub mod Leaves
+pub mod Call

@@ -1,0 +1,114 @@
+-- The lines that a call says.
+use Rattle.std.specs.Prelude.{ℕ, ◌≡◌, List, [], ◌∷◌, ◌++◌, Option, Some, None, Result, Ok, Err, true, codes, map, take, drop, flat_map}
+use Rattle.config_spec.specs.First.{fault_text}
+use Rattle.element_spec.specs.Faults as elements
+use Rattle.site_io.specs.declared.outside.OutsideFault.{OutsideFault}
+use Rattle.site_io.specs.declared.outside.OutsideFault.TheVariants as fault
+use Rattle.site_io.specs.Seen.{SaidSeen}
+use Rattle.site_io.specs.Writes.{Grows}
+use Rattle.call_spec.specs.declared.end.InputEnd.{InputEnd}
+use Rattle.call_spec.specs.declared.end.InputEnd.TheVariants as end
+use Rattle.call_spec.specs.Came.{Party, Parties, Refusal, InputCame, RunCame, Came}
+use Rattle.call_spec.specs.Came.Refusal.{NoText, BadDescription, BadElements, NoSource, NoLog, NoOutput, NoMemory}
+use Rattle.call_spec.specs.Came.Came.{BadWords, Fine, Refused, Ran}
+use Rattle.call_spec.specs.Counts.{MovesBy}
+use Rattle.call_spec.specs.Ends.{GrowsByFront}
+
+unfoldable pub usage_text : List ℕ
+usage_text = codes "usage: ipfixcol direct IN OUT, check -c FILE, collect -c FILE, generate NUMBER COUNT\n"
+
+unfoldable pub fine_text : List ℕ
+fine_text = codes "ok\n"
+
+unfoldable pub not_built_text : List ℕ
+not_built_text = codes "not built\n"
+
+unfoldable pub memory_text : List ℕ
+memory_text = codes "memory\n"
+
+unfoldable pub source_start : List ℕ
+source_start = codes "source fault: "
+
+unfoldable pub sink_start : List ℕ
+sink_start = codes "sink fault: "
+
+unfoldable pub limit_start : List ℕ
+limit_start = codes "limit: "
+
+unfoldable pub memory_start : List ℕ
+memory_start = codes "memory: "
+
+unfoldable pub description_start : List ℕ
+description_start = codes "description: "
+
+unfoldable pub elements_start : List ℕ
+elements_start = codes "elements "
+
+unfoldable pub colon : List ℕ
+colon = codes ": "
+
+unfoldable pub log_name : List ℕ
+log_name = codes "order-log"
+
+unfoldable pub line_end : List ℕ
+line_end = codes "\n"
+
+abbrev pub named_line : List ℕ → List ℕ → List ℕ
+named_line start name = (start ++ name) ++ line_end
+
+-- what stands before the fault of an element table
+abbrev pub elements_head : List ℕ → List ℕ
+elements_head name = (elements_start ++ name) ++ colon
+
+-- the line of an input, if it has one
+abbrev pub input_line : List ℕ → InputEnd → List ℕ
+input_line name end.End = []
+input_line name end.Failed = named_line source_start name
+input_line name end.Limit = named_line limit_start name
+input_line name end.Memory = named_line memory_start name
+input_line name end.NotBuilt = not_built_text
+
+-- the line of an output or of the log, if it has one
+abbrev pub sink_line : List ℕ → Option OutsideFault → List ℕ
+sink_line name None = []
+sink_line name (Some fault.Failed) = named_line sink_start name
+sink_line name (Some fault.NoMemory) = named_line memory_start name
+
+abbrev pub input_lines : List (List ℕ) → List InputEnd → List ℕ
+input_lines [] ends = []
+input_lines (name ∷ names) [] = []
+input_lines (name ∷ names) (e ∷ ends) = input_line name e ++ input_lines names ends
+
+abbrev pub sink_lines : List (List ℕ) → List (Option OutsideFault) → List ℕ
+sink_lines [] faults = []
+sink_lines (name ∷ names) [] = []
+sink_lines (name ∷ names) (f ∷ faults) = sink_line name f ++ sink_lines names faults
+
+abbrev pub log_line : Option (List ℕ) → Option OutsideFault → List ℕ
+log_line None f = []
+log_line (Some path) f = sink_line log_name f
+
+abbrev pub names_of : List Party → List (List ℕ)
+names_of parties = map (λ (p : Party). p.name) parties
+
+abbrev pub refusal_line : Parties → Refusal → List ℕ
+refusal_line parties (NoText name) = named_line source_start name
+refusal_line parties (BadDescription fault) = named_line description_start (fault_text fault)
+refusal_line parties (BadElements name fault) = named_line (elements_head name) (elements.fault_text fault)
+refusal_line parties (NoSource i) = flat_map (λ name. input_line name end.Failed) (take 1 (drop i (names_of parties.inputs)))
+refusal_line parties NoLog = sink_line log_name (Some fault.Failed)
+refusal_line parties (NoOutput j) = flat_map (λ name. sink_line name (Some fault.Failed)) (take 1 (drop j (names_of parties.outputs)))
+refusal_line parties NoMemory = memory_text
+
+-- the lines of what came of a call: of a run, those of the inputs, of the log and of the outputs
+abbrev pub lines_of : Parties → Came → List ℕ
+lines_of parties BadWords = usage_text
+lines_of parties Fine = fine_text
+lines_of parties (Refused refusal n m) = refusal_line parties refusal
+lines_of parties (Ran run) = input_lines (names_of parties.inputs) (map (λ (c : InputCame). c.end) run.inputs) ++ (log_line parties.log run.log ++ sink_lines (names_of parties.outputs) run.outputs)
+
+-- a text was said whole, or a front of it where saying failed, which is counted, or memory was wanted
+abbrev pub Said : Result (Unit {0}) OutsideFault → SaidSeen → SaidSeen → List ℕ → Type 0
+Said (Ok done) old new text = Grows old.said new.said text × (new.faults ≡ old.faults)
+Said (Err fault.Failed) old new text = GrowsByFront old.said new.said text × MovesBy true old.faults new.faults
+Said (Err fault.NoMemory) old new text = GrowsByFront old.said new.said text × (new.faults ≡ old.faults)

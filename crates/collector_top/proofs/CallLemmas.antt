@@ -1,0 +1,391 @@
+-- What a call promises, from what came and what was said.
+use Rattle.std.proofs.Common.{◌≡◌, ◌≢◌, inl, inr, ℕ, ◌+◌, ◌<◌, ◌≤◌, Bool, true, false, cond, max, List, [], ◌∷◌, ◌++◌, map, Option, Some, None, refl, ap, sym, subst, ◌∙◌, arith, append-nil}
+use Rattle.std.specs.Prelude.{Result, Ok, Err, ◌||◌, is_some}
+use Rattle.arrival_spec.specs.declared.event.Scripted.{Scripted}
+use Rattle.site_io.specs.declared.outside.OutsideFault.{OutsideFault}
+use Rattle.site_io.specs.Seen.{Seen, TextSeen, PlaceSeen, SinkSeen, SaidSeen, ChangesSay, ChangesPlace, ChangesSink, OpensSource, OpensSink, SourceGoesOut, SourceComesBack, SinkGoesOut, SinkComesBack, PlaceRefuses, SinkRefuses}
+use Rattle.words_spec.specs.Commands.{Command}
+use Rattle.words_spec.specs.Commands.Command.{Direct, Check}
+use Rattle.call_spec.specs.declared.end.InputEnd.{InputEnd}
+use Rattle.call_spec.specs.Names.{times, has}
+use Rattle.call_spec.specs.Counts.{MovesBy, TextKept, PlaceKept, SinkKept}
+use Rattle.call_spec.specs.Ends.{TakenFrom, source_failed, wants_memory, has_failed}
+use Rattle.call_spec.specs.Pairs.{Each}
+use Rattle.call_spec.specs.Came.{Came, InputCame}
+use Rattle.call_spec.specs.Came.Refusal.{NoSource, NoOutput, NoMemory, NoText, BadDescription, BadElements}
+use Rattle.call_spec.specs.Came.Came.{BadWords, Fine, Refused}
+use Rattle.call_spec.specs.Came.Came.{Ran as RanCame}
+use Rattle.call_spec.specs.Texts.{Judges}
+use Rattle.call_spec.specs.Leaves.{failed_text, refused_place, refused_sink, emptied_sinks, IsRefusal, KeepsHeld, HoldsAs, Leaves, Comes, RunLeaves, Gave}
+use Rattle.call_spec.specs.Lines as lines
+use Rattle.call_spec.specs.Status as codes
+use Rattle.call_spec.specs.Lines.{Said, lines_of, input_line, sink_line, fine_text, usage_text}
+use Rattle.call_spec.specs.Status.{status_of, end_code, fault_code, said_code, wanted_code}
+use Rattle.call_spec.specs.Call.{in_name, out_name, no_parties, direct_parties, OutputText, MayCome, parties_of, Calls}
+use Rattle.file_lines.specs.declared.run.Ended.{Ended}
+use Rattle.file_lines.specs.Run.{Ran}
+use Rattle.collector_top.specs.declared.direct.Unopened.{Unopened}
+use Rattle.collector_top.specs.declared.direct.Unopened.TheVariants as unopened
+use Rattle.collector_top.specs.declared.verdict.Refusal.{Refusal}
+use Rattle.collector_top.specs.declared.verdict.Refusal.TheVariants as refusal
+use Rattle.collector_top.specs.Says.{Says}
+use Rattle.collector_top.specs.Direct.{refusal_of, unopened_line, unopened_code, one_run, CameToRun, CameToRefusal}
+use Rattle.collector_top.specs.Check.{reason_of, meant, refusal_line, refusal_code, OneFails, CountsTexts, KeepsRest}
+use Rattle.collector_top.proofs.OpenLemmas.{same_or, still, unsunk, unread, by_name, failed_here, failed_away, marked_here, marked_away, place_back, place_refused, sink_back, sink_refused, place_taken, place_ends, place_left, sink_holds_as, or_none}
+
+module _ {S : Type 0} (left : S → Option (List Scripted)) (faults : S → ℕ) where
+  -- what was said changes nothing that came
+  comes_still : (place out : List ℕ) (came : Came) (a b c : Seen) → ChangesSay b c → Comes left faults OutputText (direct_parties place out) came a b → Comes left faults OutputText (direct_parties place out) came a c
+  comes_still place out came a b c ch k =
+      subst (λ (f : List ℕ → TextSeen). Comes left faults OutputText (direct_parties place out) came a (record c { text = f })) (sym ch.texts)
+      (subst (λ (f : List ℕ → PlaceSeen). Comes left faults OutputText (direct_parties place out) came a (record c { text = b.text; place = f })) (sym ch.places)
+      (subst (λ (f : List ℕ → SinkSeen). Comes left faults OutputText (direct_parties place out) came a (record c { text = b.text; place = b.place; sink = f })) (sym ch.sinks)
+      (record { texts = k.texts; places = k.places; sinks = k.sinks; leaves = leaves_still came k.leaves })))
+    where
+      leaves_still : (came : Came) → Leaves left faults OutputText (direct_parties place out) came a b → Leaves left faults OutputText (direct_parties place out) came a (record c { text = b.text; place = b.place; sink = b.sink })
+      leaves_still BadWords l = tt
+      leaves_still Fine l = tt
+      leaves_still (Refused r n m) l = l
+      leaves_still (RanCame run) l = record { gave = gives run.inputs l.gave; no_log = l.no_log; holds = l.holds }
+        where
+          gives : (inputs : List InputCame) → Each (Gave left faults a b) 0 (direct_parties place out).inputs inputs
+              → Each (Gave left faults a (record c { text = b.text; place = b.place; sink = b.sink })) 0 (direct_parties place out).inputs inputs
+          gives [] g = absurd g
+          gives (x ∷ inputs) g = (record { taken = g.0.taken; unfailed = g.0.unfailed; ends = g.0.ends; built = g.0.built }, rest inputs g.1)
+            where
+              rest : (inputs : List InputCame) → Each (Gave left faults a b) 1 [] inputs
+                  → Each (Gave left faults a (record c { text = b.text; place = b.place; sink = b.sink })) 1 [] inputs
+              rest [] g = tt
+              rest (y ∷ inputs) g = absurd g
+
+  -- ---- direct: before its lines are said
+
+  -- nothing was opened
+  pub nothing_opened : (place out : List ℕ) (a : Seen) → CameToRefusal left faults place out a a unopened.Memory
+  nothing_opened place out a = (
+    0,
+    0,
+    record {
+      texts = λ p. unread (a.text p);
+      places = λ p. still (a.place p);
+      sinks = λ p. unsunk (a.sink p);
+      leaves = ((omega arith, omega arith, inr refl), (λ p events is. is), λ p. refl);
+    },
+    refl,
+  )
+
+  -- the source was refused
+  pub source_refused : (place out : List ℕ) (a b : Seen) → ChangesPlace place a b → PlaceRefuses (a.place place) (b.place place) → CameToRefusal left faults place out a b unopened.NoSource
+  source_refused place out a b ch r = (
+    1,
+    0,
+    record {
+      texts = λ p. subst (λ (f : List ℕ → TextSeen). TextKept false (a.text p) (f p)) (sym ch.texts) (unread (a.text p));
+      places = by_name PlaceKept place (place ∷ []) true a.place b.place still (failed_here place) (failed_away place) (place_refused (a.place place) (b.place place) r) ch.others;
+      sinks = λ p. subst (λ (f : List ℕ → SinkSeen). SinkKept 0 false (a.sink p) (f p)) (sym ch.sinks) (unsunk (a.sink p));
+      leaves = ((refl, omega arith, refl), lefts, λ p. ap (λ (f : List ℕ → SinkSeen). (f p).held) ch.sinks);
+    },
+    ch.say,
+  )
+    where
+      lefts : (p : List ℕ) (events : List Scripted) → (a.place p).left ≡ Some events → (b.place p).left ≡ Some events
+      lefts p events is = elim (same_or p place) [
+        | inl s ↦ subst (λ q. (b.place q).left ≡ Some events) (sym s.1) (r.left ∙ subst (λ q. (a.place q).left ≡ Some events) s.1 is)
+        | inr d ↦ ap (λ (x : PlaceSeen). x.left) (ch.others p d.1) ∙ is
+      ]
+
+  -- all texts and places after a source went out and came back
+  texts_kept : (place out : List ℕ) (a b c d : Seen) → ChangesPlace place a b → ChangesSink out b c → ChangesPlace place c d → (p : List ℕ) → TextKept false (a.text p) (d.text p)
+  texts_kept place out a b c d ch ch2 ch3 p = subst (λ (f : List ℕ → TextSeen). TextKept false (a.text p) (f p)) (sym (ch3.texts ∙ (ch2.texts ∙ ch.texts))) (unread (a.text p))
+
+  place_here : (place out : List ℕ) (b c : Seen) → ChangesSink out b c → c.place place ≡ b.place place
+  place_here place out b c ch = ap (λ (f : List ℕ → PlaceSeen). f place) ch.places
+
+  place_others : (place out : List ℕ) (a b c d : Seen) → ChangesPlace place a b → ChangesSink out b c → ChangesPlace place c d → (q : List ℕ) → q ≢ place → d.place q ≡ a.place q
+  place_others place out a b c d ch ch2 ch3 q ne = ch3.others q ne ∙ (ap (λ (f : List ℕ → PlaceSeen). f q) ch2.places ∙ ch.others q ne)
+
+  say_same : (place out : List ℕ) (a b c d : Seen) → ChangesPlace place a b → ChangesSink out b c → ChangesPlace place c d → d.say ≡ a.say
+  say_same place out a b c d ch ch2 ch3 = ch3.say ∙ (ch2.say ∙ ch.say)
+
+  -- what is left at all places, where nothing was asked of the source
+  lefts_kept : (place out : List ℕ) (a b c d : Seen) (src : S) → ChangesPlace place a b → SourceGoesOut (a.place place) (b.place place) (left src) (faults src) → ChangesSink out b c → ChangesPlace place c d
+      → SourceComesBack (c.place place) (d.place place) (left src) (faults src) → (p : List ℕ) (events : List Scripted) → (a.place p).left ≡ Some events → (d.place p).left ≡ Some events
+  lefts_kept place out a b c d src ch g ch2 ch3 back p events is =
+      elim (same_or p place) [
+        | inl s ↦ subst (λ q. (d.place q).left ≡ Some events) (sym s.1) (place_left (a.place place).left (d.place place).left (left src) g.told back.shown events (subst (λ q. (a.place q).left ≡ Some events) s.1 is))
+        | inr e ↦ ap (λ (x : PlaceSeen). x.left) (place_others place out a b c d ch ch2 ch3 p e.1) ∙ is
+      ]
+
+  places_kept : (place out : List ℕ) (a b c d : Seen) (src : S) → ChangesPlace place a b → SourceGoesOut (a.place place) (b.place place) (left src) (faults src) → ChangesSink out b c → ChangesPlace place c d
+      → SourceComesBack (c.place place) (d.place place) (left src) (faults src) → (p : List ℕ) → PlaceKept (times p (place ∷ [])) (has p []) (a.place p) (d.place p)
+  places_kept place out a b c d src ch g ch2 ch3 back =
+      by_name PlaceKept place [] false a.place d.place still refl (λ q ne. refl)
+      (place_back false (a.place place) (b.place place) (c.place place) (d.place place) (left src) (left src) (faults src) (faults src) g (place_here place out b c ch2) back refl) (place_others place out a b c d ch ch2 ch3)
+
+  -- the sink was refused
+  pub sink_refused_after : (place out : List ℕ) (a b c d : Seen) (src : S) → ChangesPlace place a b → SourceGoesOut (a.place place) (b.place place) (left src) (faults src) → ChangesSink out b c → SinkRefuses (b.sink out) (c.sink out)
+      → ChangesPlace place c d → SourceComesBack (c.place place) (d.place place) (left src) (faults src) → CameToRefusal left faults place out a d unopened.NoSink
+  sink_refused_after place out a b c d src ch g ch2 r ch3 back = (
+    1,
+    1,
+    record {
+      texts = texts_kept place out a b c d ch ch2 ch3;
+      places = places_kept place out a b c d src ch g ch2 ch3 back;
+      sinks = λ p. subst (λ (f : List ℕ → SinkSeen). SinkKept (times p (out ∷ [])) (has p (out ∷ [])) (f p) (d.sink p)) ch.sinks
+          (subst (λ (f : List ℕ → SinkSeen). SinkKept (times p (out ∷ [])) (has p (out ∷ [])) (b.sink p) (f p)) (sym ch3.sinks)
+          (by_name SinkKept out (out ∷ []) true b.sink c.sink unsunk (failed_here out) (failed_away out) (sink_refused (b.sink out) (c.sink out) r) ch2.others p));
+      leaves = ((refl, omega arith, refl), lefts_kept place out a b c d src ch g ch2 ch3 back, helds);
+    },
+    say_same place out a b c d ch ch2 ch3,
+  )
+    where
+      helds : (p : List ℕ) → (d.sink p).held ≡ (a.sink p).held
+      helds p = ap (λ (f : List ℕ → SinkSeen). (f p).held) ch3.sinks ∙ (elim (same_or p out) [
+        | inl s ↦ subst (λ q. (c.sink q).held ≡ (b.sink q).held) (sym s.1) r.held
+        | inr e ↦ ap (λ (x : SinkSeen). x.held) (ch2.others p e.1)
+      ] ∙ ap (λ (f : List ℕ → SinkSeen). (f p).held) ch.sinks)
+
+  -- memory was wanted for the sink
+  pub sink_wanting : (place out : List ℕ) (a b c d : Seen) (src : S) → ChangesPlace place a b → SourceGoesOut (a.place place) (b.place place) (left src) (faults src) → ChangesSink out b c → c.sink out ≡ b.sink out
+      → ChangesPlace place c d → SourceComesBack (c.place place) (d.place place) (left src) (faults src) → CameToRefusal left faults place out a d unopened.Memory
+  sink_wanting place out a b c d src ch g ch2 same ch3 back = (
+    1,
+    0,
+    record {
+      texts = texts_kept place out a b c d ch ch2 ch3;
+      places = places_kept place out a b c d src ch g ch2 ch3 back;
+      sinks = λ p. subst (λ (x : SinkSeen). SinkKept 0 false (a.sink p) x) (sym (sink_same p)) (unsunk (a.sink p));
+      leaves = ((omega arith, omega arith, inl refl), lefts_kept place out a b c d src ch g ch2 ch3 back, λ p. ap (λ (x : SinkSeen). x.held) (sink_same p));
+    },
+    say_same place out a b c d ch ch2 ch3,
+  )
+    where
+      sink_same : (p : List ℕ) → d.sink p ≡ a.sink p
+      sink_same p = ap (λ (f : List ℕ → SinkSeen). f p) ch3.sinks ∙ (elim (same_or p out) [ inl s ↦ subst (λ q. c.sink q ≡ b.sink q) (sym s.1) same | inr e ↦ ch2.others p e.1 ] ∙ ap (λ (f : List ℕ → SinkSeen). f p) ch.sinks)
+
+  -- memory was wanted for the source
+  pub source_wanting : (place out : List ℕ) (a b : Seen) → ChangesPlace place a b → b.place place ≡ a.place place → CameToRefusal left faults place out a b unopened.Memory
+  source_wanting place out a b ch same = (
+    0,
+    0,
+    record {
+      texts = λ p. subst (λ (f : List ℕ → TextSeen). TextKept false (a.text p) (f p)) (sym ch.texts) (unread (a.text p));
+      places = λ p. subst (λ (x : PlaceSeen). PlaceKept 0 false (a.place p) x) (sym (place_same p)) (still (a.place p));
+      sinks = λ p. subst (λ (f : List ℕ → SinkSeen). SinkKept 0 false (a.sink p) (f p)) (sym ch.sinks) (unsunk (a.sink p));
+      leaves = ((omega arith, omega arith, inr refl), (λ p events is. ap (λ (x : PlaceSeen). x.left) (place_same p) ∙ is), λ p. ap (λ (f : List ℕ → SinkSeen). (f p).held) ch.sinks);
+    },
+    ch.say,
+  )
+    where
+      place_same : (p : List ℕ) → b.place p ≡ a.place p
+      place_same p = elim (same_or p place) [ inl s ↦ subst (λ q. b.place q ≡ a.place q) (sym s.1) same | inr d ↦ ch.others p d.1 ]
+
+  -- ---- direct: a run
+
+  module _ {K : Type 0} (held : K → Option (List ℕ)) (sink_faults : K → ℕ) where
+    -- both went out, and came back after the run
+    pub came_to_run : (place out : List ℕ) (a b c d e : Seen) (src now_src : S) (sink now_sink : K) (total : Option ℕ) (ended : Ended) → ChangesPlace place a b → SourceGoesOut (a.place place) (b.place place) (left src) (faults src)
+        → ChangesSink out b c → SinkGoesOut (b.sink out) (c.sink out) (held sink) total (sink_faults sink) → Ran left faults held sink_faults src now_src sink now_sink ended.input ended.output
+        → ChangesSink out c d → SinkComesBack (c.sink out) (d.sink out) (held now_sink) (sink_faults now_sink) → ChangesPlace place d e → SourceComesBack (d.place place) (e.place place) (left now_src) (faults now_src)
+        → CameToRun left faults place out a e ended
+    came_to_run place out a b c d e src now_src sink now_sink total ended ch g ch2 h r ch3 back2 ch4 back = (
+      r.given,
+      r.beyond,
+      record {
+        texts = λ p. subst (λ (f : List ℕ → TextSeen). TextKept false (a.text p) (f p)) (sym (ch4.texts ∙ (ch3.texts ∙ (ch2.texts ∙ ch.texts)))) (unread (a.text p));
+        places = by_name PlaceKept place (cond (source_failed ended.input) (place ∷ []) []) (source_failed ended.input) a.place e.place still (marked_here place (source_failed ended.input)) (marked_away place (source_failed ended.input))
+            (place_back (source_failed ended.input) (a.place place) (b.place place) (d.place place) (e.place place) (left src) (left now_src) (faults src) (faults now_src) g (ap (λ (f : List ℕ → PlaceSeen). f place) (ch3.places ∙ ch2.places)) back r.counts)
+            (λ q ne. ch4.others q ne ∙ (ap (λ (f : List ℕ → PlaceSeen). f q) (ch3.places ∙ ch2.places) ∙ ch.others q ne));
+        sinks = λ p. subst (λ (f : List ℕ → SinkSeen). SinkKept (times p (out ∷ [])) (has p (cond (has_failed ended.output) (out ∷ []) [])) (f p) (e.sink p)) ch.sinks
+            (subst (λ (f : List ℕ → SinkSeen). SinkKept (times p (out ∷ [])) (has p (cond (has_failed ended.output) (out ∷ []) [])) (b.sink p) (f p)) (sym ch4.sinks)
+            (by_name SinkKept out (cond (has_failed ended.output) (out ∷ []) []) (has_failed ended.output) b.sink d.sink unsunk (marked_here out (has_failed ended.output)) (marked_away out (has_failed ended.output))
+            (sink_back (has_failed ended.output) (b.sink out) (c.sink out) (c.sink out) (d.sink out) (held sink) (held now_sink) total (sink_faults sink) (sink_faults now_sink) h refl back2 r.sink_counts)
+            (λ q ne. ch3.others q ne ∙ ch2.others q ne) p));
+        leaves = record {
+          gave = (
+            record {
+              taken = place_taken (a.place place).left (e.place place).left (left src) (left now_src) (r.given ++ r.beyond) g.told back.shown r.taken;
+              unfailed = (r.unfailed.0, r.unfailed.1 ∙ g.fresh, place_taken (a.place place).left (left r.unfailed.0) (left src) (left r.unfailed.0) (r.given ++ r.beyond) g.told refl r.unfailed.2);
+              ends = place_ends (a.place place).left (e.place place).left (left src) (left now_src) r.given r.beyond ended.input g.told back.shown r.ends;
+              built = r.built;
+            },
+            tt,
+          );
+          no_log = λ none. refl;
+          holds = (
+            (
+              r.text,
+              r.is,
+              subst (λ x. HoldsAs x (a.sink out).held (e.sink out).held r.text) (or_none (is_some ended.output) (wants_memory ended.input))
+                  (subst (λ (f : List ℕ → SinkSeen). HoldsAs (is_some ended.output || wants_memory ended.input) (f out).held (e.sink out).held r.text) ch.sinks
+                  (sink_holds_as (is_some ended.output || wants_memory ended.input) (b.sink out).held (e.sink out).held (held sink) (held now_sink) r.text h.nothing h.told (ap (λ (f : List ℕ → SinkSeen). (f out).held) ch4.sinks ∙ back2.shown) r.octets)),
+            ),
+            tt,
+          );
+        };
+      },
+      ch4.say ∙ (ch3.say ∙ (ch2.say ∙ ch.say)),
+    )
+
+  -- ---- what was said
+
+  one_line : (e : InputEnd) (f : Option OutsideFault) → input_line in_name e ++ sink_line out_name f ≡ (input_line in_name e ++ []) ++ ([] ++ (sink_line out_name f ++ []))
+  one_line e f = ap (λ l. l ++ sink_line out_name f) (sym (append-nil (input_line in_name e))) ∙ ap (λ l. (input_line in_name e ++ []) ++ l) (sym (append-nil (sink_line out_name f)))
+
+  most : (e f s : ℕ) → max (max e f) s ≡ max (max (max 0 e) (max 0 (max 0 f))) s
+  most e f s = omega arith
+
+  pub calls_ran : (place out : List ℕ) (ended : Ended) (a b c : Seen) (status : ℕ) → CameToRun left faults place out a b ended
+      → (said : Result (Unit {0}) OutsideFault) × Says b c (input_line in_name ended.input ++ sink_line out_name ended.output) said × (status ≡ max (max (end_code ended.input) (fault_code ended.output)) (said_code said))
+      → Calls left faults (Direct place out) a c status
+  calls_ran place out ended a b c status k s =
+      let came = RanCame (one_run k.0 k.1 ended) in (
+        came,
+        s.0,
+        record {
+          may = tt;
+          comes = comes_still place out came a b c s.1.rest k.2;
+          says = subst (λ (x : SaidSeen). Said s.0 x c.say (lines_of (direct_parties place out) came)) k.3 (subst (λ t. Said s.0 b.say c.say t) (one_line ended.input ended.output) s.1.text_said);
+          answers = s.2 ∙ most (end_code ended.input) (fault_code ended.output) (said_code s.0);
+        },
+      )
+
+  -- the line and the code of a refusal
+  refused_line : (place out : List ℕ) (r : Unopened) → unopened_line r ≡ lines.refusal_line (direct_parties place out) (refusal_of r)
+  refused_line place out unopened.NoSource = sym (append-nil (unopened_line unopened.NoSource))
+  refused_line place out unopened.NoSink = sym (append-nil (unopened_line unopened.NoSink))
+  refused_line place out unopened.Memory = refl
+
+  refused_code : (r : Unopened) → unopened_code r ≡ codes.refusal_code (refusal_of r)
+  refused_code unopened.NoSource = refl
+  refused_code unopened.NoSink = refl
+  refused_code unopened.Memory = refl
+
+  may_refuse : (place out : List ℕ) (text : List ℕ → TextSeen) (r : Unopened) (n m : ℕ) → MayCome (Direct place out) text (Refused (refusal_of r) n m)
+  may_refuse place out text unopened.NoSource n m = tt
+  may_refuse place out text unopened.NoSink n m = tt
+  may_refuse place out text unopened.Memory n m = tt
+
+  pub calls_refused : (place out : List ℕ) (r : Unopened) (a b c : Seen) (status : ℕ) → CameToRefusal left faults place out a b r
+      → (said : Result (Unit {0}) OutsideFault) × Says b c (unopened_line r) said × (status ≡ max (unopened_code r) (wanted_code said)) → Calls left faults (Direct place out) a c status
+  calls_refused place out r a b c status k s =
+      let came = Refused (refusal_of r) k.0 k.1 in (
+        came,
+        s.0,
+        record {
+          may = may_refuse place out a.text r k.0 k.1;
+          comes = comes_still place out came a b c s.1.rest k.2;
+          says = subst (λ (x : SaidSeen). Said s.0 x c.say (lines_of (direct_parties place out) came)) k.3 (subst (λ t. Said s.0 b.say c.say t) (refused_line place out r) s.1.text_said);
+          answers = s.2 ∙ ap (λ n. max n (wanted_code s.0)) (refused_code r);
+        },
+      )
+
+  -- ---- check, and refused words
+
+  -- places and sinks that are as they were
+  places_still : (a b : Seen) → b.place ≡ a.place → (p : List ℕ) → PlaceKept 0 false (a.place p) (b.place p)
+  places_still a b e p = subst (λ (f : List ℕ → PlaceSeen). PlaceKept 0 false (a.place p) (f p)) (sym e) (still (a.place p))
+
+  sinks_still : (a b : Seen) → b.sink ≡ a.sink → (p : List ℕ) → SinkKept 0 false (a.sink p) (b.sink p)
+  sinks_still a b e p = subst (λ (f : List ℕ → SinkSeen). SinkKept 0 false (a.sink p) (f p)) (sym e) (unsunk (a.sink p))
+
+  texts_still : (a b : Seen) → b.text ≡ a.text → (p : List ℕ) → TextKept false (a.text p) (b.text p)
+  texts_still a b e p = subst (λ (f : List ℕ → TextSeen). TextKept false (a.text p) (f p)) (sym e) (unread (a.text p))
+
+  pub calls_fine : (file : List ℕ) (a b c : Seen) (status : ℕ) → Judges a.text file (Ok tt) → b.text ≡ a.text → KeepsRest a b
+      → (said : Result (Unit {0}) OutsideFault) × Says b c fine_text said × (status ≡ said_code said) → Calls left faults (Check file) a c status
+  calls_fine file a b c status judged texts keeps s = (
+    Fine,
+    s.0,
+    record {
+      may = judged;
+      comes = record { texts = texts_still a c (s.1.rest.texts ∙ texts); places = places_still a c (s.1.rest.places ∙ keeps.places); sinks = sinks_still a c (s.1.rest.sinks ∙ keeps.sinks); leaves = tt };
+      says = subst (λ (x : SaidSeen). Said s.0 x c.say fine_text) keeps.say s.1.text_said;
+      answers = s.2;
+    },
+  )
+
+  -- the text that failed, if one did
+  texts_counted : (a b c : Seen) (r : Refusal) → CountsTexts {T = Unit {0}} a.text b.text (Err r) → c.text ≡ b.text → (p : List ℕ) → TextKept (has p (failed_text (reason_of r))) (a.text p) (c.text p)
+  texts_counted a b c (refusal.NoText name) o e p =
+      subst (λ (f : List ℕ → TextSeen). TextKept (has p (name ∷ [])) (a.text p) (f p)) (sym e) (elim (same_or p name) [
+        | inl x ↦ subst (λ q. TextKept (has q (name ∷ [])) (a.text q) (b.text q)) (sym x.1) (subst (λ h. TextKept h (a.text name) (b.text name)) (sym (failed_here name)) (record { octets = o.refuses.octets; faults = (o.refuses.later, o.refuses.rose) }))
+        | inr d ↦ subst (λ h. TextKept h (a.text p) (b.text p)) (sym (failed_away name p d.1)) (subst (λ (x : TextSeen). TextKept false (a.text p) x) (sym (o.others p d.1)) (unread (a.text p)))
+      ])
+  texts_counted a b c (refusal.BadDescription f) o e p = texts_still a c (e ∙ o) p
+  texts_counted a b c (refusal.BadElements name f) o e p = texts_still a c (e ∙ o) p
+  texts_counted a b c refusal.Memory o e p = texts_still a c (e ∙ o) p
+
+  no_place : (r : Refusal) → refused_place no_parties (reason_of r) ≡ []
+  no_place (refusal.NoText name) = refl
+  no_place (refusal.BadDescription f) = refl
+  no_place (refusal.BadElements name f) = refl
+  no_place refusal.Memory = refl
+
+  no_sink : (r : Refusal) → refused_sink no_parties (reason_of r) ≡ []
+  no_sink (refusal.NoText name) = refl
+  no_sink (refusal.BadDescription f) = refl
+  no_sink (refusal.BadElements name f) = refl
+  no_sink refusal.Memory = refl
+
+  no_emptied : (r : Refusal) → emptied_sinks no_parties (reason_of r) 0 ≡ []
+  no_emptied (refusal.NoText name) = refl
+  no_emptied (refusal.BadDescription f) = refl
+  no_emptied (refusal.BadElements name f) = refl
+  no_emptied refusal.Memory = refl
+
+  is_refusal : (r : Refusal) → IsRefusal no_parties (reason_of r) 0 0
+  is_refusal (refusal.NoText name) = (refl, refl)
+  is_refusal (refusal.BadDescription f) = (refl, refl)
+  is_refusal (refusal.BadElements name f) = (refl, refl)
+  is_refusal refusal.Memory = (omega arith, omega arith, inr refl)
+
+  judged_line : (r : Refusal) → refusal_line r ≡ lines.refusal_line no_parties (reason_of r)
+  judged_line (refusal.NoText name) = refl
+  judged_line (refusal.BadDescription f) = refl
+  judged_line (refusal.BadElements name f) = refl
+  judged_line refusal.Memory = refl
+
+  judged_code : (r : Refusal) → refusal_code r ≡ codes.refusal_code (reason_of r)
+  judged_code (refusal.NoText name) = refl
+  judged_code (refusal.BadDescription f) = refl
+  judged_code (refusal.BadElements name f) = refl
+  judged_code refusal.Memory = refl
+
+  pub calls_judged : (file : List ℕ) (r : Refusal) (a b c : Seen) (status : ℕ) → Judges a.text file (Err (reason_of r)) → CountsTexts {T = Unit {0}} a.text b.text (Err r) → KeepsRest a b
+      → (said : Result (Unit {0}) OutsideFault) × Says b c (refusal_line r) said × (status ≡ max (refusal_code r) (wanted_code said)) → Calls left faults (Check file) a c status
+  calls_judged file r a b c status judged counts keeps s =
+      let places = s.1.rest.places ∙ keeps.places in
+      let sinks = s.1.rest.sinks ∙ keeps.sinks in (
+        Refused (reason_of r) 0 0,
+        s.0,
+        record {
+          may = judged;
+          comes = record {
+            texts = texts_counted a b c r counts s.1.rest.texts;
+            places = λ p. subst (λ (l : List (List ℕ)). PlaceKept 0 (has p l) (a.place p) (c.place p)) (sym (no_place r)) (places_still a c places p);
+            sinks = λ p. subst (λ (l : List (List ℕ)). SinkKept 0 (has p l) (a.sink p) (c.sink p)) (sym (no_sink r)) (sinks_still a c sinks p);
+            leaves = (
+              is_refusal r,
+              (λ p events is. ap (λ (f : List ℕ → PlaceSeen). (f p).left) places ∙ is),
+              λ p. subst (λ (l : List (List ℕ)). KeepsHeld (has p l) (a.sink p) (c.sink p)) (sym (no_emptied r)) (ap (λ (f : List ℕ → SinkSeen). (f p).held) sinks),
+            );
+          };
+          says = subst (λ (x : SaidSeen). Said s.0 x c.say (lines_of no_parties (Refused (reason_of r) 0 0))) keeps.say (subst (λ t. Said s.0 b.say c.say t) (judged_line r) s.1.text_said);
+          answers = s.2 ∙ ap (λ n. max n (wanted_code s.0)) (judged_code r);
+        },
+      )
+
+  -- words that are refused
+  pub calls_words : (command : Command) (a b : Seen) (status : ℕ) → MayCome command a.text BadWords → parties_of command ≡ no_parties
+      → ((said : Result (Unit {0}) OutsideFault) × Says a b usage_text said) → status ≡ 1 → Calls left faults command a b status
+  calls_words command a b status may none s is = (
+    BadWords,
+    s.0,
+    record {
+      may = may;
+      comes = record { texts = texts_still a b s.1.rest.texts; places = places_still a b s.1.rest.places; sinks = sinks_still a b s.1.rest.sinks; leaves = tt };
+      says = s.1.text_said;
+      answers = is;
+    },
+  )

@@ -1,6 +1,0 @@
-use Rattle.std.proofs.Common.{◌≡◌, ◌<◌, ◌^◌, take}
-use Rattle.text_spec.specs.Number.{number_of}
-use Rattle.collector_top.proofs.decimal.add_octets.Given as goal
-
-abbrev pub invariant-loop-octet : goal.invariant-loop-octet
-invariant-loop-octet l = record { so_far : l.n ≡ number_of (take l.octet-index l.value); small : l.n < 256 ^ l.octet-index }

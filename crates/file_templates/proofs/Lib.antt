@@ -1,0 +1,2 @@
+pub mod TemplateRecordsLemmas
+pub mod SessionTemplatesLemmas

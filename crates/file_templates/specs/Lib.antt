@@ -1,0 +1,3 @@
+pub mod TemplateRecords
+pub mod DomainTemplates
+pub mod SessionTemplates
