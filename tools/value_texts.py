@@ -210,4 +210,5 @@ def main():
         print(f"name {pen} {ident} {name}")
 
 
-main()
+if __name__ == "__main__":
+    main()
