@@ -1,0 +1,7 @@
+mod LinkLemmas
+mod FindLemmas
+mod CountLemmas
+mod CutLemmas
+mod IdleLemmas
+mod EventLemmas
+mod StandLemmas
