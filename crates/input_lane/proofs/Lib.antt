@@ -4,4 +4,5 @@ mod CountLemmas
 mod CutLemmas
 mod IdleLemmas
 mod EventLemmas
+mod BringLemmas
 mod StandLemmas

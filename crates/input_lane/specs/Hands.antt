@@ -1,5 +1,8 @@
 -- What waits to be given, and its answer.
-use Rattle.std.specs.Prelude.{ℕ, ◌≡◌, ◌++◌, List, map, ⊤}
+use Rattle.std.specs.Prelude.{ℕ, ◌≡◌, ◌++◌, List, map, ⊤, Bool}
+use Rattle.col_base.specs.declared.base.SessionKey.{SessionKey}
+use Rattle.wire_spec.specs.Stream.{is_bad}
+use Rattle.arrival_spec.specs.Cutting.{cutting}
 use Rattle.std.specs.Arc.{arc_value}
 use Rattle.arrival_spec.specs.Arrival.{Arrival}
 use Rattle.arrival_spec.specs.Arrival.Arrival.{SessionOpen, Raw, SessionClose, Periodic}
@@ -42,3 +45,9 @@ IsGot (answer.Got a) = ⊤
 IsGot answer.NoMemory = ⊥
 IsGot answer.Nothing = ⊥
 IsGot answer.NotYet = ⊥
+
+-- all whole messages of a rest wait, and what is left of it stays
+pub record Cuts (key : SessionKey) (old new : List ℕ) (before after : List Came) (broken : Bool) : Type 0 where
+  pub hand : meant after ≡ meant before ++ map (Raw key) (cutting old).messages
+  pub rest : new ≡ (cutting old).rest
+  pub bad : broken ≡ is_bad new

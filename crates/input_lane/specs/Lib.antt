@@ -4,3 +4,4 @@ pub mod Hands
 pub mod Kept
 pub mod Steps
 pub mod Inlets
+pub mod Brings

@@ -1,13 +1,14 @@
 // What an event does.
 ghost use Rattle.std.specs.Prelude.{◌≡◌, ◌≤◌, Some, OnOk, length, true};
 ghost use Rattle.arrival_spec.specs.declared.event.Scripted.{Scripted};
-ghost use Rattle.arrival_spec.specs.declared.event.Scripted.TheVariants.{Opened, Datagram, Closed, Tick};
+ghost use Rattle.arrival_spec.specs.declared.event.Scripted.TheVariants.{Opened, Bytes, Datagram, Closed, Tick};
 ghost use Rattle.arrival_spec.specs.Events.{is_event};
 ghost use Rattle.arrival_spec.specs.Sessions.{is_datagrams};
 ghost use Rattle.site_io.specs.Events.{event_in, HasLength};
 ghost use Rattle.input_lane.specs.Inlets.{Takes};
 ghost use Rattle.input_lane.specs.Steps.{Strays};
 
+use crate::brought::Brought;
 use crate::came::Came;
 use crate::close::close_idle;
 use crate::hand::{put, put_message};
@@ -92,6 +93,38 @@ impl State {
         }
     }
 
+    /// Octets of a connection come. Those of one without a session are thrown away.
+    pub fn bytes(&mut self, conn: u32, octets: &[u8]) -> Result<(), WantOfMemory>
+        ensures { OnOk result (Takes (Bytes conn octets.now) self.old self.new) }
+    {
+        if has_datagrams(self.transport) {
+            self.stray();
+            return Ok(());
+        }
+        let alloc = *self.hand.allocator();
+        match self
+            .links
+            .bring(alloc, conn, self.input, octets, &mut self.hand)?
+        {
+            None => {
+                self.stray();
+                Ok(())
+            }
+            Some(Brought::Dead) => Ok(()),
+            Some(Brought::Alive) => Ok(()),
+            Some(Brought::Broken) => {
+                self.tally.broken = count_up(self.tally.broken);
+                match self.sessions.disconnect(conn) {
+                    Some(key) => {
+                        put(&mut self.hand, Came::SessionClose(key))?;
+                        Ok(())
+                    }
+                    None => Ok(()),
+                }
+            }
+        }
+    }
+
     /// A datagram is a message. The first one of a peer opens its session.
     pub fn datagram(&mut self, peer: PeerKey, octets: &[u8]) -> Result<(), WantOfMemory>
         ensures { OnOk result (Takes (Datagram peer octets.now) self.old self.new) }
@@ -150,8 +183,12 @@ impl State {
                 self.tick(seconds)?;
                 Ok(())
             }
-            // not built: octets of a connection
-            _ => Err(WantOfMemory),
+            SourceEvent::Bytes(conn, n) => {
+                self.bytes(conn, &room[..n])?;
+                Ok(())
+            }
+            SourceEvent::NotYet => Ok(()),
+            SourceEvent::End => Ok(()),
         }
     }
 }

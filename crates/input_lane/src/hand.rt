@@ -1,8 +1,8 @@
 // What waits to be given.
-ghost use Rattle.std.specs.Prelude.{◌≡◌, ◌++◌, ◌∷◌, [], OnOk, IfOk};
+ghost use Rattle.std.specs.Prelude.{◌≡◌, ◌++◌, ◌∷◌, [], IfOk, OnOk};
 ghost use Rattle.std.specs.Arc.{arc_value};
 ghost use Rattle.arrival_spec.specs.Arrival.Arrival.{Raw};
-ghost use Rattle.input_lane.specs.Hands.{IsHanded, IsGot, meant};
+ghost use Rattle.input_lane.specs.Hands.{Cuts, IsGot, IsHanded, meant};
 
 use crate::came::{Came, InletAnswer};
 use col_base::{Octets, SessionKey, WantOfMemory};
@@ -10,6 +10,7 @@ use session_table::Arrival;
 use std::alloc::Global;
 use std::collections::VecDeque;
 use std::sync::Arc;
+use stream_cut::{CutFault, Cutter};
 
 /// One more waits.
 pub fn put(hand: &mut VecDeque<Came>, came: Came) -> Result<(), WantOfMemory>
@@ -43,5 +44,24 @@ pub fn handed(came: Came) -> InletAnswer
         Came::Raw(key, octets) => InletAnswer::Got(Arrival::Raw(key, octets)),
         Came::SessionClose(key) => InletAnswer::Got(Arrival::SessionClose(key)),
         Came::Periodic(input, seconds) => InletAnswer::Got(Arrival::Periodic(input, seconds)),
+    }
+}
+
+/// All messages wait that are whole. Whether no further one can begin is answered.
+pub fn cut(
+    alloc: Global,
+    cutter: &mut Cutter,
+    key: SessionKey,
+    hand: &mut VecDeque<Came>,
+) -> Result<bool, WantOfMemory>
+    ensures { IfOk result (Cuts key cutter.old cutter.new hand.old.items hand.new.items) }
+{
+    loop {
+        match cutter.next() {
+            Ok(Some(message)) => put_message(alloc, hand, key, message)?,
+            Ok(None) => return Ok(false),
+            Err(CutFault::Broken) => return Ok(true),
+            Err(CutFault::NoMemory) => return Err(WantOfMemory),
+        }
     }
 }

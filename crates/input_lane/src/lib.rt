@@ -6,6 +6,7 @@
 //! all that its source gave and all that it gave on, and each call keeps that.
 #![tactic(auto)]
 
+mod brought;
 mod calls;
 mod came;
 mod close;

@@ -1,12 +1,16 @@
 // Connections of an input.
-ghost use Rattle.std.specs.Prelude.{◌≡◌, ◌++◌, [], ◌∷◌, None, Some, not, find, filter, fold, MatchBool, MatchOption, OnOk};
-ghost use Rattle.indexmap.specs.IndexMap.{values};
+ghost use Rattle.std.specs.Prelude.{◌≡◌, ◌++◌, [], ◌∷◌, None, Some, not, find, filter, fold, MatchBool, MatchOption, OnOk, ◌<◌, IfOk};
+ghost use Rattle.indexmap.specs.IndexMap.{index_map_len, keys, values};
+ghost use Rattle.input_lane.specs.Brings.{Brings, BringsAt};
 ghost use Rattle.input_lane.specs.Links.{AreApart, HasLink, link_is, stream_link, torn_by, torn_more};
 
+use crate::brought::Brought;
+use crate::came::Came;
 use crate::stream::Stream;
 use col_base::WantOfMemory;
 use indexmap::IndexMap;
 use std::alloc::Global;
+use std::collections::VecDeque;
 use std::marker::Model;
 
 /// The connections that were opened and not closed, in order of opening, each with its stream. One that is known is found by
@@ -35,6 +39,23 @@ fn torn_of(streams: &IndexMap<u32, Stream>, count: u64) -> u64
     streams
         .values()
         .fold(count, |torn, stream| stream.torn(torn))
+}
+
+/// Octets come to the stream at a place.
+fn bring_at(
+    streams: &mut IndexMap<u32, Stream>,
+    alloc: Global,
+    i: usize,
+    input: u16,
+    octets: &[u8],
+    hand: &mut VecDeque<Came>,
+) -> Result<Brought, WantOfMemory>
+    requires { i < index_map_len streams.old }
+    ensures keys { keys streams.new ≡ keys streams.old }
+    ensures brings { IfOk result (BringsAt input octets.now streams.old.entries streams.new.entries i hand.old.items hand.new.items) }
+{
+    let stream = &mut streams[i];
+    stream.bring(alloc, input, octets, hand)
 }
 
 impl Links {
@@ -77,5 +98,26 @@ impl Links {
         ensures { result ≡ fold torn_by count self.now }
     {
         torn_of(&self.streams, count)
+    }
+
+    /// Octets of a connection come. None, and nothing changes, where it is not there.
+    pub fn bring(
+        &mut self,
+        alloc: Global,
+        conn: u32,
+        input: u16,
+        octets: &[u8],
+        hand: &mut VecDeque<Came>,
+    ) -> Result<Option<Brought>, WantOfMemory>
+        ensures apart { AreApart self.old }
+        ensures brings { IfOk result (λ found. MatchOption found ((find (link_is conn) self.old ≡ None) × (self.new ≡ self.old) × (hand.new ≡ hand.old)) (Brings input conn octets.now self.old self.new hand.old.items hand.new.items)) }
+    {
+        match self.streams.get_index_of(&conn) {
+            None => Ok(None),
+            Some(i) => {
+                let brought = bring_at(&mut self.streams, alloc, i, input, octets, hand)?;
+                Ok(Some(brought))
+            }
+        }
     }
 }

@@ -15,3 +15,6 @@ returns-in_ok-datagram-in-Datagram c = λ e at is. as_given (scripted.Datagram c
 
 pub returns-in_ok-tick-in-Tick : goal.returns-in_ok-tick-in-Tick
 returns-in_ok-tick-in-Tick c = λ e at is. as_given (scripted.Tick c.in-Tick.seconds) e c.args.self.now c.tick.new.self (sym (ap (event_in c.args.room.now) c.in-Tick.is) ∙ at) c.in_ok-tick-in-Tick.ensures
+
+pub returns-in_ok-bytes-in-Bytes : goal.returns-in_ok-bytes-in-Bytes
+returns-in_ok-bytes-in-Bytes c = λ e at is. as_given (scripted.Bytes c.in-Bytes.conn (take c.in-Bytes.n c.args.room.now)) e c.args.self.now c.bytes.new.self (sym (ap (event_in c.args.room.now) c.in-Bytes.is) ∙ at) c.in_ok-bytes-in-Bytes.ensures
