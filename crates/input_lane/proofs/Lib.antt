@@ -1,0 +1,8 @@
+mod LinkLemmas
+mod FindLemmas
+mod CountLemmas
+mod CutLemmas
+mod IdleLemmas
+mod EventLemmas
+mod BringLemmas
+mod StandLemmas

@@ -1,0 +1,132 @@
+// The calls of an input.
+ghost use Rattle.std.specs.Prelude.{◌≡◌, ◌≤◌, [], length, ℕ, List, IfOk, IfErr};
+ghost use Rattle.arrival_spec.specs.declared.event.Scripted.{Scripted};
+ghost use Rattle.arrival_spec.specs.Settings.{Settings};
+ghost use Rattle.arrival_spec.specs.Arrival.{Arrival};
+ghost use Rattle.input_lane.specs.Inlets.{Answers, Asked, Asks, Causes, Stands, and_given, fault_of};
+ghost use Rattle.input_lane.specs.Kept.{settings_of};
+ghost use Rattle.input_lane.specs.Tallies.{counts_of};
+ghost use Rattle.input_lane.specs.declared.state.Reading.TheVariants as reading;
+
+use crate::came::InletAnswer;
+use crate::inlet::Inlet;
+use crate::lane::kind;
+use crate::links::Links;
+use crate::state::{Kind, Lane, Reading, State};
+use crate::tally::{Tally, counts};
+use col_base::WantOfMemory;
+use config_spec::InputConf;
+use pipeline_message::{LaneFault, RunCounts};
+use session_table::Sessions;
+use site_io::{OutsideFault, Source};
+use std::alloc::Global;
+use std::collections::VecDeque;
+
+/// The most octets that an event has.
+const MOST_OCTETS: usize = 65_535;
+
+/// Room for the octets of an event.
+fn room(alloc: Global) -> Result<Vec<u8>, WantOfMemory>
+    ensures { IfOk result (λ room. 65535 ≤ length room.items) }
+{
+    let octets = vec![in alloc; 0u8; MOST_OCTETS]?;
+    Ok(octets)
+}
+
+/// An input that gave nothing yet.
+fn lane(alloc: Global, conf: &InputConf, input: u16) -> Lane
+    ensures reading { result.reading ≡ reading.Open }
+    ensures stands { Stands (settings_of conf.now) input [] [] result }
+{
+    Lane {
+        state: State {
+            input,
+            transport: conf.spec.transport,
+            seconds: 0,
+            sessions: Sessions::new(alloc, input, conf.idle),
+            links: Links::new(alloc),
+            hand: VecDeque::new(alloc),
+            tally: Tally {
+                sessions: 0,
+                torn: 0,
+                broken: 0,
+                refused: 0,
+                stray: 0,
+            },
+        },
+        reading: Reading::Open,
+        stop_after: conf.stop_after,
+        taken: 0,
+    }
+}
+
+impl<S: Source> Inlet<S> {
+    /// The input of this number over a source, as the description sets it. Where memory is wanted the source is given back.
+    pub fn new(
+        alloc: Global,
+        conf: &InputConf,
+        input: u16,
+        source: S,
+    ) -> Result<Self, (WantOfMemory, S)>
+        ensures source { IfOk result (λ inlet. inlet.source ≡ source) }
+        ensures reading { IfOk result (λ inlet. inlet.lane.reading ≡ reading.Open) }
+        ensures stands { IfOk result (λ inlet. Stands (settings_of conf.now) input [] [] inlet.lane) }
+        ensures refused { IfErr result (λ refused. refused.1 ≡ source) }
+    {
+        match room(alloc) {
+            Err(fault) => Err((fault, source)),
+            Ok(room) => Ok(Inlet {
+                source,
+                room,
+                lane: lane(alloc, conf, input),
+            }),
+        }
+    }
+
+    /// How it broke: `Source` where its source failed, `NoMemory` where memory was wanted, and else `Nothing`.
+    pub fn fault(&self) -> LaneFault
+        ensures { result ≡ fault_of self.now.lane.reading }
+    {
+        match self.lane.reading {
+            Reading::Open => LaneFault::Nothing,
+            Reading::Ended => LaneFault::Nothing,
+            Reading::Failed => LaneFault::Source,
+            Reading::Wanting => LaneFault::NoMemory,
+        }
+    }
+
+    /// What was counted: `sessions`, `torn`, `broken`, `refused` and `stray`. The other counts are 0.
+    pub fn counts(&self) -> RunCounts
+        ensures { result ≡ counts_of self.now.lane.state.tally }
+    {
+        counts(self.lane.state.tally)
+    }
+
+    /// Gives the source back.
+    pub fn end(self) -> S
+        ensures { result ≡ self.source }
+    {
+        self.source
+    }
+
+    /// The next arrival. While reading goes on, the source is asked once where nothing waits of the events before.
+    pub fn next(&mut self) -> InletAnswer
+        ensures { (asked : Asked) × Asks S.left S.faults asked self.old.source self.new.source × Causes asked self.old.lane.reading self.new.lane.reading result
+            × ((settings : Settings) (input : ℕ) (taken : List Scripted) (out : List (Arrival (List ℕ))) → Stands settings input taken out self.old.lane
+            → Answers settings input (and_given asked taken) out self.new.lane result) }
+    {
+        match self.lane.hand_out() {
+            Some(answer) => return answer,
+            None => {}
+        }
+        match self.source.next(&mut self.room) {
+            Err(OutsideFault::NoMemory) => self.lane.want(),
+            Err(OutsideFault::Failed) => self.lane.finish(Reading::Failed),
+            Ok(event) => match kind(event) {
+                Kind::End => self.lane.finish(Reading::Ended),
+                Kind::Look => InletAnswer::NotYet,
+                Kind::Event => self.lane.took(event, &self.room),
+            },
+        }
+    }
+}
