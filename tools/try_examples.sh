@@ -39,9 +39,9 @@ try empty_template 0 0
 try withdrawal 0 0
 try data_alone 0 0
 try no_sets 0 0
-try variable_names 2 0
-try repeated_element 2 0
-try options 2 0
+try variable_names 0 2 '{"@type":"ipfix.entry","iana:interfaceName":"abc"}'
+try repeated_element 0 1 '{"@type":"ipfix.entry","iana:octetDeltaCount":[5,6],"en9:id7":"0xabcd"}'
+try options 0 1 '{"@type":"ipfix.options","iana:observationDomainId":1,"iana:ingressInterface":7}'
 for description in descriptions/*.toml; do
     if [ "$("$program" check -c "$description")" != ok ]; then
         echo "$description: not ok"
