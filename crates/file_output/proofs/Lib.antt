@@ -1,0 +1,5 @@
+pub mod PlaceLemmas
+pub mod MessageLemmas
+pub mod LimitLemmas
+pub mod ItemLemmas
+pub mod PutLemmas
