@@ -47,10 +47,7 @@ pub enum Msg {
     SessionMsg(SessionNote),
     DataMsg(Arc<DataMessage>),
     /// So many seconds since 1970, at the input of this number.
-    Periodic {
-        input: u16,
-        seconds: u32,
-    },
+    Periodic { input: u16, seconds: u32 },
     /// Nothing comes any more.
     Terminate,
 }
