@@ -1,0 +1,4 @@
+pub mod TouchLemmas
+pub mod DueLemmas
+pub mod StepLemmas
+pub mod SetLemmas
