@@ -21,7 +21,7 @@ use Rattle.text_spec.proofs.DifferentLemmas.{is_pair-refl, different_grow}
 abbrev pub Values : Type 0
 Values = List (List ℕ)
 
-or_none : (a b : Bool) → (a || b) ≡ false → (a ≡ false) × (b ≡ false)
+pub or_none : (a b : Bool) → (a || b) ≡ false → (a ≡ false) × (b ≡ false)
 or_none true b e = absurd (cc)
 or_none false b e = (refl, e)
 
@@ -31,7 +31,7 @@ kept_at pair f v items true e = ap (λ b. map (λ item. item.1) (cond b ((f, v) 
 kept_at pair f v items false e = ap (λ b. map (λ item. item.1) (cond b ((f, v) ∷ filter (λ item. is_of pair item.0) items) (filter (λ item. is_of pair item.0) items))) e
 
 -- fields of other elements in front have no value of it
-front_none : (pair : Pair) (i : ℕ) (fields : List FieldSpec) (values : Values) → i ≤ length fields → length values ≡ length fields → list_any (is_of pair) (take i fields) ≡ false
+pub front_none : (pair : Pair) (i : ℕ) (fields : List FieldSpec) (values : Values) → i ≤ length fields → length values ≡ length fields → list_any (is_of pair) (take i fields) ≡ false
     → values_at pair (zip fields values) ≡ values_at pair (zip (drop i fields) (drop i values))
 front_none pair zero fields values le many none = refl
 front_none pair (suc i) [] values le many none = absurd (omega arith)
@@ -60,7 +60,7 @@ own_values fields values at field is lt many first =
     ∙ kept_at (pair_of field) field (get_or values at []) (zip (drop (at + 1) fields) (drop (at + 1) values)) true (is_pair-refl (pair_of field))
 
 -- no other field is of the element
-none_left : (pair : Pair) (fields : List FieldSpec) (values : Values) → list_any (is_of pair) fields ≡ false → values_at pair (zip fields values) ≡ []
+pub none_left : (pair : Pair) (fields : List FieldSpec) (values : Values) → list_any (is_of pair) fields ≡ false → values_at pair (zip fields values) ≡ []
 none_left pair [] values none = refl
 none_left pair (f ∷ fields) [] none = refl
 none_left pair (f ∷ fields) (v ∷ values) none =
@@ -92,7 +92,7 @@ list_of : (text : List ℕ → List ℕ) (v : List ℕ) (rest : Values) → (res
 list_of text v [] some = absurd (some refl)
 list_of text v (w ∷ rest) some = refl
 
-many_left : (values : Values) (fields : List FieldSpec) (n : ℕ) → length values ≡ length fields → length (drop n values) ≡ length (drop n fields)
+pub many_left : (values : Values) (fields : List FieldSpec) (n : ℕ) → length values ≡ length fields → length (drop n values) ≡ length (drop n fields)
 many_left values fields zero e = e
 many_left [] [] (suc n) e = refl
 many_left [] (f ∷ fields) (suc n) e = absurd (omega arith)

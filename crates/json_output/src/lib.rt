@@ -6,6 +6,7 @@
 #![tactic(auto)]
 
 mod alone;
+mod chains;
 mod member;
 mod prepared;
 mod records;

@@ -6,8 +6,10 @@ ghost use Rattle.text_spec.specs.Json.{member_name, member_by, text_at};
 ghost use Rattle.text_spec.specs.Marks.{before_name, after_name};
 ghost use Rattle.text_spec.specs.Name.{name_text, type_at};
 ghost use Rattle.prepared_lines.specs.Grows.{GrowsBy};
+ghost use Rattle.json_output.specs.Chain.{AreChains};
 
-use crate::values::{is_among, put_values};
+use crate::chains::Chains;
+use crate::values::put_values;
 use col_base::Octets;
 use element_table::Elements;
 use prepared_lines::Draft;
@@ -56,10 +58,12 @@ fn put_member(
     elements: &Elements,
     field: FieldSpec,
     fields: &[FieldSpec],
+    chains: &Chains,
     at: usize,
     draft: &mut Draft,
 ) -> Result<(), AllocError>
     requires fields { draft.old.fields ≡ fields.now }
+    requires chains { AreChains fields.now chains.now }
     requires inside { at < length fields.now }
     requires is { field ≡ get_or fields.now at field }
     requires first { list_any (is_of (pair_of field)) (take at fields.now) ≡ false }
@@ -67,15 +71,18 @@ fn put_member(
 {
     let name = member_name(alloc, elements, field)?;
     draft.put_text(name.as_slice())?;
-    put_values(field, type_of(elements, field), fields, at, draft)?;
+    put_values(field, type_of(elements, field), fields, chains, at, draft)?;
     Ok(())
 }
 
 /// Whether a field is printed, and the first of its element.
-fn is_first(field: FieldSpec, before: &[FieldSpec]) -> bool
-    ensures { result ≡ (not (is_padding (pair_of field)) && not (list_any (is_of (pair_of field)) before.now)) }
+fn is_printed_first(field: FieldSpec, fields: &[FieldSpec], chains: &Chains, at: usize) -> bool
+    requires chains { AreChains fields.now chains.now }
+    requires inside { at < length fields.now }
+    requires is { field ≡ get_or fields.now at field }
+    ensures { result ≡ (not (is_padding (pair_of field)) && not (list_any (is_of (pair_of field)) (take at fields.now))) }
 {
-    !is_padding(field) && !is_among(field, before)
+    !is_padding(field) && chains.is_first(field, fields, at)
 }
 
 /// Goes on with the element of a field, if it is printed and this is its first field.
@@ -84,27 +91,40 @@ fn put_if_first(
     elements: &Elements,
     field: FieldSpec,
     fields: &[FieldSpec],
+    chains: &Chains,
     at: usize,
     draft: &mut Draft,
 ) -> Result<(), AllocError>
     requires fields { draft.old.fields ≡ fields.now }
+    requires chains { AreChains fields.now chains.now }
     requires inside { at < length fields.now }
     requires is { field ≡ get_or fields.now at field }
     ensures { OnOk result (GrowsBy draft.old draft.new (λ values. if not (is_padding (pair_of field)) && not (list_any (is_of (pair_of field)) (take at fields.now))
         then member_by (text_at elements.now) elements.now (zip fields.now values) (pair_of field) else [])) }
 {
-    if is_first(field, first_fields(fields, at)) {
-        put_member(alloc, elements, field, fields, at, draft)?;
+    if is_printed_first(field, fields, chains, at) {
+        put_member(alloc, elements, field, fields, chains, at, draft)?;
     }
     Ok(())
 }
 
-/// The first fields.
-fn first_fields(fields: &[FieldSpec], count: usize) -> &[FieldSpec]
-    requires { count < length fields.now }
-    ensures { result.now ≡ take count fields.now }
+/// Goes on with all elements that are printed, by the chains of their fields.
+fn put_each(
+    alloc: Global,
+    elements: &Elements,
+    fields: &[FieldSpec],
+    chains: &Chains,
+    draft: &mut Draft,
+) -> Result<(), AllocError>
+    requires fields { draft.old.fields ≡ fields.now }
+    requires chains { AreChains fields.now chains.now }
+    ensures { OnOk result (GrowsBy draft.old draft.new (λ values. flat_map (member_by (text_at elements.now) elements.now (zip fields.now values)) (printed_pairs fields.now))) }
 {
-    &fields[..count]
+    for at in 0..fields.len() {
+        let field = fields[at];
+        put_if_first(alloc, elements, field, fields, chains, at, draft)?;
+    }
+    Ok(())
 }
 
 /// Goes on with all elements that are printed, in order of their first fields.
@@ -117,9 +137,6 @@ pub fn put_members(
     requires { draft.old.fields ≡ fields.now }
     ensures { OnOk result (GrowsBy draft.old draft.new (λ values. flat_map (member_by (text_at elements.now) elements.now (zip fields.now values)) (printed_pairs fields.now))) }
 {
-    for at in 0..fields.len() {
-        let field = fields[at];
-        put_if_first(alloc, elements, field, fields, at, draft)?;
-    }
-    Ok(())
+    let chains = Chains::new(alloc, fields)?;
+    put_each(alloc, elements, fields, &chains, draft)
 }

@@ -6,25 +6,13 @@ ghost use Rattle.text_spec.specs.Json.{values_text};
 ghost use Rattle.text_spec.specs.Marks.{comma, list_start, list_end};
 ghost use Rattle.text_spec.specs.Value.{value_text};
 ghost use Rattle.prepared_lines.specs.Grows.{GrowsBy};
+ghost use Rattle.json_output.specs.Chain.{AreChains};
 
+use crate::chains::Chains;
 use prepared_lines::Draft;
 use std::alloc::AllocError;
 use text_spec::ElementType;
 use wire_spec::FieldSpec;
-
-/// Whether two fields are of one element.
-pub fn is_of(field: FieldSpec, other: FieldSpec) -> bool
-    ensures { result ≡ is_of (pair_of field) other }
-{
-    field.pen == other.pen && field.id == other.id
-}
-
-/// Whether one of the fields is of the element of a field.
-pub fn is_among(field: FieldSpec, fields: &[FieldSpec]) -> bool
-    ensures { result ≡ list_any (is_of (pair_of field)) fields.now }
-{
-    fields.iter().any(|other| is_of(field, *other))
-}
 
 #[tactic(auto, unfolding(text_spec::specs::Marks::comma))]
 fn put_comma(draft: &mut Draft) -> Result<(), AllocError>
@@ -57,36 +45,25 @@ fn put_next(at: usize, kind: Option<ElementType>, draft: &mut Draft) -> Result<(
     Ok(())
 }
 
-/// Goes on with a comma and the value of a field, if that is of the element.
-fn put_if_of(
-    field: FieldSpec,
-    other: FieldSpec,
-    at: usize,
-    kind: Option<ElementType>,
-    draft: &mut Draft,
-) -> Result<(), AllocError>
-    requires { at < length draft.old.fields }
-    ensures { OnOk result (GrowsBy draft.old draft.new (λ values. if is_of (pair_of field) other then comma ++ value_text kind (get_or values at []) else [])) }
-{
-    if is_of(field, other) {
-        put_next(at, kind, draft)?;
-    }
-    Ok(())
-}
-
-/// Goes on with the values of the other fields of an element, from a field on, a comma before each.
+/// Goes on with the values of the other fields of an element, behind the first one, a comma before each.
 fn put_others(
     field: FieldSpec,
     kind: Option<ElementType>,
     fields: &[FieldSpec],
-    from: usize,
+    chains: &Chains,
+    first: usize,
     draft: &mut Draft,
 ) -> Result<(), AllocError>
-    requires { draft.old.fields ≡ fields.now }
-    ensures { OnOk result (GrowsBy draft.old draft.new (λ values. flat_map (λ value. comma ++ value_text kind value) (values_at (pair_of field) (zip (drop from fields.now) (drop from values))))) }
+    requires fields { draft.old.fields ≡ fields.now }
+    requires chains { AreChains fields.now chains.now }
+    requires inside { first < length fields.now }
+    requires is { field ≡ get_or fields.now first field }
+    ensures { OnOk result (GrowsBy draft.old draft.new (λ values. flat_map (λ value. comma ++ value_text kind value) (values_at (pair_of field) (zip (drop (first + 1) fields.now) (drop (first + 1) values))))) }
 {
-    for at in from..fields.len() {
-        put_if_of(field, fields[at], at, kind, draft)?;
+    let mut next = chains.next(fields, first);
+    while let Some(at) = next {
+        put_next(at, kind, draft)?;
+        next = chains.next(fields, at);
     }
     Ok(())
 }
@@ -96,27 +73,22 @@ fn put_list(
     field: FieldSpec,
     kind: Option<ElementType>,
     fields: &[FieldSpec],
+    chains: &Chains,
     at: usize,
     draft: &mut Draft,
 ) -> Result<(), AllocError>
     requires fields { draft.old.fields ≡ fields.now }
+    requires chains { AreChains fields.now chains.now }
     requires inside { at < length fields.now }
+    requires is { field ≡ get_or fields.now at field }
     ensures { OnOk result (GrowsBy draft.old draft.new (λ values. list_start ++ (value_text kind (get_or values at [])
         ++ flat_map (λ value. comma ++ value_text kind value) (values_at (pair_of field) (zip (drop (at + 1) fields.now) (drop (at + 1) values)))) ++ list_end)) }
 {
     put_list_start(draft)?;
     draft.put_value(at, kind)?;
-    put_others(field, kind, fields, at + 1, draft)?;
+    put_others(field, kind, fields, chains, at, draft)?;
     put_list_end(draft)?;
     Ok(())
-}
-
-/// What follows the first fields.
-fn behind(fields: &[FieldSpec], count: usize) -> &[FieldSpec]
-    requires { count ≤ length fields.now }
-    ensures { result.now ≡ drop count fields.now }
-{
-    &fields[count..]
 }
 
 /// Goes on with the values of an element, the first field of which stands at a place: with the value, if it is the only one, or
@@ -125,19 +97,21 @@ pub fn put_values(
     field: FieldSpec,
     kind: Option<ElementType>,
     fields: &[FieldSpec],
+    chains: &Chains,
     at: usize,
     draft: &mut Draft,
 ) -> Result<(), AllocError>
     requires fields { draft.old.fields ≡ fields.now }
+    requires chains { AreChains fields.now chains.now }
     requires inside { at < length fields.now }
     requires is { field ≡ get_or fields.now at field }
     requires first { list_any (is_of (pair_of field)) (take at fields.now) ≡ false }
     ensures { OnOk result (GrowsBy draft.old draft.new (λ values. values_text (value_text kind) (values_at (pair_of field) (zip fields.now values)))) }
 {
-    if !is_among(field, behind(fields, at + 1)) {
+    if chains.is_last(field, fields, at) {
         draft.put_value(at, kind)?;
         return Ok(());
     }
-    put_list(field, kind, fields, at, draft)?;
+    put_list(field, kind, fields, chains, at, draft)?;
     Ok(())
 }

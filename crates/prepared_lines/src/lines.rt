@@ -15,6 +15,7 @@ use crate::way::PlacedLine;
 use record_iter::ValuePlace;
 use std::alloc::{AllocError, Global};
 use std::marker::Model;
+use value_text::place_piece;
 use wire_spec::FieldSpec;
 
 /// Text that grows, the lines of a message, which contracts see as its octets. It is kept from message to message with its
@@ -60,6 +61,17 @@ impl Lines {
         ensures { self.new ≡ [] }
     {
         self.at = 0;
+    }
+
+    /// Puts other octets behind the text, such as those of a line that is no record's. Where memory is refused the text
+    /// stays as it was.
+    pub fn extend(&mut self, octets: &[u8]) -> Result<(), AllocError>
+        ensures ok { OnOk result (self.new ≡ self.old ++ octets.now) }
+        ensures err { OnErr result (self.new ≡ self.old) }
+    {
+        make_room(&mut self.room, self.at, octets.len())?;
+        self.at = place_piece(octets, &mut self.room, self.at);
+        Ok(())
     }
 
     /// Puts the line of a record by the fast loop.

@@ -21,6 +21,41 @@ impl Model for Literal {
     ghost invariant = { λ l. l.len ≤ 64 };
 }
 
+/// The octets of half a block, which most literals fit.
+const HALF: usize = 32;
+
+/// The first half of a block.
+#[inline(always)]
+fn first_half(block: &[u8; BLOCK]) -> &[u8; HALF]
+    ensures { result.now ≡ take 32 block.now }
+{
+    let Some(half) = block.first_chunk::<HALF>() else {
+        unreachable!()
+    };
+    half
+}
+
+/// Fills a room with half a block.
+#[inline(always)]
+fn fill(room: &mut [u8], half: &[u8; HALF])
+    requires { length room.old ≡ 32 }
+    ensures { room.new ≡ half.now }
+{
+    let Some(room) = room.as_mut_array::<HALF>() else {
+        unreachable!()
+    };
+    *room = *half;
+}
+
+/// Puts half a block.
+#[inline(always)]
+fn place_half(half: &[u8; HALF], text: &mut [u8], at: usize)
+    requires { at + 32 ≤ length text.old }
+    ensures { take (at + 32) text.new ≡ take at text.old ++ half.now }
+{
+    fill(&mut text[at..at + HALF], half);
+}
+
 impl Literal {
     /// The octets, in a block.
     pub fn new(octets: &[u8]) -> Literal
@@ -35,13 +70,17 @@ impl Literal {
         }
     }
 
-    /// Puts the octets behind a place.
+    /// Puts the octets behind a place: as half a block where they fit one, since stores are what the fast loop has most of.
     #[inline(always)]
     pub fn place(&self, text: &mut [u8], at: usize) -> usize
         requires { at + 64 ≤ length text.old }
         ensures grown { take result text.new ≡ take at text.old ++ self.now }
         ensures near { result ≤ at + 64 }
     {
+        if self.len <= HALF {
+            place_half(first_half(&self.block), text, at);
+            return at + self.len;
+        }
         place_block(&self.block, text, at);
         at + self.len
     }

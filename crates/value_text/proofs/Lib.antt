@@ -2,3 +2,5 @@ pub mod DottedLemmas
 pub mod RowLemmas
 pub mod ListLemmas
 pub mod DigitLemmas
+pub mod HexLemmas
+pub mod RunLemmas

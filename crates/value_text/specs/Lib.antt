@@ -1,3 +1,4 @@
 pub mod Dotted
 pub mod Groups
 pub mod Digits
+pub mod Hexadecimal

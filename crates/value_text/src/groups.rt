@@ -5,61 +5,27 @@ ghost use Rattle.std.specs.Net.Text as net;
 ghost use Rattle.text_spec.specs.Value.{ipv6_text, octet_text, quoted};
 ghost use Rattle.value_text.specs.Groups.{separator, later_group, zero_groups};
 
-use crate::octet_text::{hex_digit, place_octets, place_quote};
-use crate::place::{place_one, place_quad, place_three, place_two};
+use crate::hexadecimal::{place_hex_pair, place_short_pair};
+use crate::octet_text::{place_octets, place_quote};
+use crate::place::{place_one, place_two};
+use crate::zero_run::longest_zero_run;
 use col_base::be16;
 
-/// How many of a group's four digits are zeros that stand in front.
-fn leading_zeros(group: u16) -> usize
-    ensures value { result ≡ net.leading_zero_digits group }
-    ensures within { result < 4 }
-{
-    match group {
-        0x1000.. => 0,
-        0x100.. => 1,
-        0x10.. => 2,
-        _ => 3,
-    }
-}
-
-/// The four digits of a group.
-#[tactic(auto, unfolding(std::specs::Net::Text::hex))]
-fn digits_of(group: u16) -> [u8; 4]
-    ensures { drop (net.leading_zero_digits group) result ≡ net.hex group }
-{
-    [
-        hex_digit((group / 0x1000) as u8),
-        hex_digit((group / 0x100 % 16) as u8),
-        hex_digit((group / 0x10 % 16) as u8),
-        hex_digit((group % 16) as u8),
-    ]
-}
-
 /// Puts a group without leading zeros.
+#[inline(always)]
 fn place_group(group: u16, text: &mut [u8], at: usize) -> usize
     requires { at + 4 ≤ length text.old }
     ensures grown { take result text.new ≡ take at text.old ++ net.hex group }
     ensures near { result ≤ at + 4 }
 {
-    let [first, second, third, fourth] = digits_of(group);
-    match leading_zeros(group) {
-        0 => {
-            place_quad(first, second, third, fourth, text, at);
-            at + 4
-        }
-        1 => {
-            place_three(second, third, fourth, text, at);
-            at + 3
-        }
-        2 => {
-            place_two(third, fourth, text, at);
-            at + 2
-        }
-        _ => {
-            place_one(fourth, text, at);
-            at + 1
-        }
+    let high = (group / 256) as u8;
+    let low = (group % 256) as u8;
+    if high == 0 {
+        return place_short_pair(low, text, at);
     }
+    let end = place_short_pair(high, text, at);
+    place_hex_pair(low, text, end);
+    end + 2
 }
 
 /// Puts a colon.
@@ -127,24 +93,6 @@ fn place_groups(groups: &[u16], text: &mut [u8], at: usize) -> usize
     place_first(groups[0], later(groups), text, at)
 }
 
-/// The start and the length of the longest run of zero groups, the leftmost of equals.
-fn longest_zero_run(groups: &[u16]) -> (usize, usize)
-    ensures value { result ≡ net.longest_zero_run groups.now }
-    ensures within { result.0 + result.1 ≤ length groups.now }
-{
-    let mut start = groups.len();
-    let mut len = 0;
-    let mut run = 0;
-    for i in (0..groups.len()).rev() {
-        run = if groups[i] == 0 { run + 1 } else { 0 };
-        if run >= len {
-            start = i;
-            len = run;
-        }
-    }
-    (start, len)
-}
-
 /// Puts two colons.
 #[inline(always)]
 #[tactic(auto, unfolding(crate::specs::Groups::zero_groups))]
@@ -170,7 +118,7 @@ fn place_parts(front: &[u16], back: &[u16], text: &mut [u8], at: usize) -> usize
 
 /// Puts groups, the longest run of two or more that are zero as two colons.
 #[tactic(auto, unfolding(std::specs::Net::Text::hex_groups_text, crate::specs::Groups::zero_groups))]
-fn place_compressed(groups: &[u16], text: &mut [u8], at: usize) -> usize
+fn place_compressed(groups: &[u16; 8], text: &mut [u8], at: usize) -> usize
     requires { at + 5 * length groups.now + 2 ≤ length text.old }
     ensures grown { take result text.new ≡ take at text.old ++ net.hex_groups_text groups.now }
     ensures near { result ≤ at + 5 * length groups.now + 2 }

@@ -10,6 +10,7 @@ mod boolean;
 mod digits;
 mod dotted;
 mod groups;
+mod hexadecimal;
 mod mac;
 mod name;
 mod number;
@@ -18,6 +19,7 @@ mod place;
 mod string;
 mod time;
 mod value;
+mod zero_run;
 
 pub use digits::{place_u32, place_u64};
 pub use dotted::place_ipv4;

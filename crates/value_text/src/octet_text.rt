@@ -4,7 +4,8 @@ ghost use Rattle.std.specs.Char.{digit_char};
 ghost use Rattle.text_spec.specs.Marks.{quote, hexadecimal_mark};
 ghost use Rattle.text_spec.specs.Value.{hex_pair, octet_text};
 
-use crate::place::{place_one, place_three, place_two};
+use crate::hexadecimal::place_hex_pair;
+use crate::place::{place_one, place_three};
 
 /// A lower-case hexadecimal digit.
 #[inline(always)]
@@ -23,7 +24,7 @@ fn place_pairs(value: &[u8], text: &mut [u8], at: usize) -> usize
 {
     let mut end = at;
     for octet in value {
-        place_two(hex_digit(*octet / 16), hex_digit(*octet % 16), text, end);
+        place_hex_pair(*octet, text, end);
         end += 2;
     }
     end

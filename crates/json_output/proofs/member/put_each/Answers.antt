@@ -7,7 +7,7 @@ use Rattle.text_spec.specs.Json.{member_by, text_at}
 use Rattle.prepared_lines.specs.Grows.{Text}
 use Rattle.prepared_lines.proofs.GrowLemmas.{grows_then, grows_same}
 use Rattle.json_output.proofs.ElementLemmas.{member_text}
-use Rattle.json_output.proofs.member.put_members.Goals as goal
+use Rattle.json_output.proofs.member.put_each.Goals as goal
 
 pub loop-at-preserved : goal.loop-at-preserved
 loop-at-preserved c =
