@@ -3,7 +3,7 @@ ghost use Rattle.std.specs.Prelude.{◌≡◌, ◌++◌, Result, max};
 ghost use Rattle.site_io.specs.declared.outside.OutsideFault.{OutsideFault};
 ghost use Rattle.call_spec.specs.Lines.{input_line, sink_line};
 ghost use Rattle.call_spec.specs.Status.{end_code, fault_code, said_code, wanted_code};
-ghost use Rattle.call_spec.specs.Call.{in_name, out_name};
+ghost use Rattle.call_spec.specs.Plan.{in_name, out_name};
 ghost use Rattle.collector_top.specs.Says.{Says};
 ghost use Rattle.collector_top.specs.Direct.{unopened_line, unopened_code};
 
@@ -15,7 +15,7 @@ use site_io::{OutsideFault, Site};
 use std::alloc::Global;
 
 /// The name of the input in lines.
-#[tactic(auto, unfolding(call_spec::specs::Call::in_name))]
+#[tactic(auto, unfolding(call_spec::specs::Plan::in_name))]
 fn in_name() -> &'static [u8]
     ensures { result.now ≡ in_name }
 {
@@ -23,7 +23,7 @@ fn in_name() -> &'static [u8]
 }
 
 /// The name of the output in lines.
-#[tactic(auto, unfolding(call_spec::specs::Call::out_name))]
+#[tactic(auto, unfolding(call_spec::specs::Plan::out_name))]
 fn out_name() -> &'static [u8]
     ensures { result.now ≡ out_name }
 {
