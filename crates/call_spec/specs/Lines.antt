@@ -77,15 +77,11 @@ sink_line name None = []
 sink_line name (Some fault.Failed) = named_line sink_start name
 sink_line name (Some fault.NoMemory) = named_line memory_start name
 
-abbrev pub input_lines : List (List ℕ) → List InputEnd → List ℕ
-input_lines [] ends = []
-input_lines (name ∷ names) [] = []
-input_lines (name ∷ names) (e ∷ ends) = input_line name e ++ input_lines names ends
-
-abbrev pub sink_lines : List (List ℕ) → List (Option OutsideFault) → List ℕ
-sink_lines [] faults = []
-sink_lines (name ∷ names) [] = []
-sink_lines (name ∷ names) (f ∷ faults) = sink_line name f ++ sink_lines names faults
+-- the lines of all of some names, each by what came to it
+abbrev pub lines_by : {B : Type 0} → (List ℕ → B → List ℕ) → List (List ℕ) → List B → List ℕ
+lines_by line [] came = []
+lines_by line (name ∷ names) [] = []
+lines_by line (name ∷ names) (b ∷ came) = line name b ++ lines_by line names came
 
 abbrev pub log_line : Option (List ℕ) → Option OutsideFault → List ℕ
 log_line None f = []
@@ -95,11 +91,6 @@ log_line (Some path) f = sink_line log_name f
 abbrev pub stage_line : List ℕ → Bool → List ℕ
 stage_line name false = []
 stage_line name true = named_line memory_start name
-
-abbrev pub stage_lines : List (List ℕ) → List Bool → List ℕ
-stage_lines [] wants = []
-stage_lines (name ∷ names) [] = []
-stage_lines (name ∷ names) (b ∷ wants) = stage_line name b ++ stage_lines names wants
 
 abbrev pub names_of : List Party → List (List ℕ)
 names_of parties = map (λ (p : Party). p.name) parties
@@ -119,8 +110,8 @@ ends_of run = map (λ (c : InputCame). c.end) run.inputs
 
 -- the lines of a run's faults: those of the inputs, of the log, of the intermediates and of the outputs
 abbrev pub fault_lines : Parties → RunCame → List ℕ
-fault_lines parties run = input_lines (names_of parties.inputs) (ends_of run)
-    ++ (log_line parties.log run.log ++ (stage_lines parties.stages run.stages ++ sink_lines (names_of parties.outputs) run.outputs))
+fault_lines parties run = lines_by input_line (names_of parties.inputs) (ends_of run)
+    ++ (log_line parties.log run.log ++ (lines_by stage_line parties.stages run.stages ++ lines_by sink_line (names_of parties.outputs) run.outputs))
 
 -- the summary of a run
 abbrev pub summary_of : Plan → RunCame → List ℕ

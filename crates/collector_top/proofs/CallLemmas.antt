@@ -30,7 +30,7 @@ use Rattle.collector_top.specs.declared.direct.Unopened.{Unopened}
 use Rattle.collector_top.specs.declared.direct.Unopened.TheVariants as unopened
 use Rattle.collector_top.specs.declared.verdict.Refusal.{Refusal}
 use Rattle.collector_top.specs.declared.verdict.Refusal.TheVariants as refusal
-use Rattle.collector_top.specs.Says.{Says}
+use Rattle.run_lines.specs.Says.{Says}
 use Rattle.collector_top.specs.Direct.{refusal_of, unopened_line, unopened_code, one_run, CameToRun, CameToRefusal}
 use Rattle.collector_top.specs.Check.{reason_of, meant, refusal_line, refusal_code, OneFails, CountsTexts, KeepsRest}
 use Rattle.collector_top.proofs.OpenLemmas.{same_or, still, unsunk, unread, by_name, failed_here, failed_away, marked_here, marked_away, place_back, place_refused, sink_back, sink_refused, place_taken, place_ends, place_left, sink_holds_as, or_none}
