@@ -1,49 +1,21 @@
 -- What a call promises.
-use Rattle.std.specs.Prelude.{ℕ, ◌≡◌, ⊤, List, [], ◌∷◌, Option, Some, None, Result, Ok, Err, codes}
+use Rattle.std.specs.Prelude.{ℕ, ◌≡◌, ◌⊎◌, ⊤, Bool, true, false, List, Option, Result, Ok, Err}
 use Rattle.arrival_spec.specs.declared.event.Scripted.{Scripted}
 use Rattle.site_io.specs.declared.outside.OutsideFault.{OutsideFault}
 use Rattle.site_io.specs.Seen.{Seen, TextSeen}
 use Rattle.words_spec.specs.Commands.{Command}
 use Rattle.words_spec.specs.Commands.Command.{Direct, Check, Collect, Generate}
 use Rattle.words_spec.specs.Commands.Command.{Refused as NoCommand}
-use Rattle.call_spec.specs.Built.{IsFileText}
-use Rattle.call_spec.specs.Came.{Party, Parties, Refusal, InputCame, Came}
-use Rattle.call_spec.specs.Came.Refusal.{NoText, BadDescription, BadElements, NoSource, NoLog, NoOutput, NoMemory}
+use Rattle.call_spec.specs.Built.{is_built}
+use Rattle.call_spec.specs.Came.{Refusal, Came}
+use Rattle.call_spec.specs.Came.Refusal.{NoText, BadDescription, BadElements, NotBuilt, NoSource, NoLog, NoOutput, NoMemory}
 use Rattle.call_spec.specs.Came.Came.{BadWords, Fine, Refused, Ran}
-use Rattle.call_spec.specs.Texts.{Judges}
+use Rattle.call_spec.specs.Plan.{Plan}
+use Rattle.call_spec.specs.Plan.Plan.{Nothing, OneFile, Described}
+use Rattle.call_spec.specs.Texts.{Describes, HasTable, Judges}
 use Rattle.call_spec.specs.Leaves.{Comes}
 use Rattle.call_spec.specs.Lines.{Said, lines_of}
 use Rattle.call_spec.specs.Status.{status_of}
-
--- the names of the input and of the output of `direct`
-unfoldable pub in_name : List ℕ
-in_name = codes "in"
-
-unfoldable pub out_name : List ℕ
-out_name = codes "out"
-
-abbrev pub no_parties : Parties
-no_parties = record { inputs = []; log = None; outputs = [] }
-
-abbrev pub one_party : List ℕ → List ℕ → Party
-one_party name at = record { name = name; at = at }
-
-abbrev pub direct_parties : List ℕ → List ℕ → Parties
-direct_parties place out = record { inputs = one_party in_name place ∷ []; log = None; outputs = one_party out_name out ∷ [] }
-
--- the inputs, the log and the outputs of a command
-abbrev pub parties_of : Command → Parties
-parties_of (Direct place out) = direct_parties place out
-parties_of (Check file) = no_parties
-parties_of (Collect file) = no_parties
-parties_of (Generate number count) = no_parties
-parties_of NoCommand = no_parties
-
--- the text of an output of `direct`: that of what its one input gave
-abbrev pub OutputText : ℕ → List InputCame → List ℕ → Type 0
-OutputText j [] text = ⊥
-OutputText j (c ∷ []) text = IsFileText c.given text
-OutputText j (c ∷ (d ∷ more)) text = ⊥
 
 -- what may come of `direct`: it reads no text
 abbrev pub IsOfDirect : Came → Type 0
@@ -52,6 +24,7 @@ IsOfDirect Fine = ⊥
 IsOfDirect (Refused (NoText name) n m) = ⊥
 IsOfDirect (Refused (BadDescription fault) n m) = ⊥
 IsOfDirect (Refused (BadElements name fault) n m) = ⊥
+IsOfDirect (Refused NotBuilt n m) = ⊥
 IsOfDirect (Refused (NoSource i) n m) = ⊤
 IsOfDirect (Refused NoLog n m) = ⊤
 IsOfDirect (Refused (NoOutput j) n m) = ⊤
@@ -65,21 +38,53 @@ IsOfCheck text file Fine = Judges text file (Ok tt)
 IsOfCheck text file (Refused refusal n m) = Judges text file (Err refusal)
 IsOfCheck text file (Ran run) = ⊥
 
--- what may come of a command: words of none are refused, and so are those of commands that aren't built yet
-abbrev pub MayCome : Command → (List ℕ → TextSeen) → Came → Type 0
-MayCome (Direct place out) text came = IsOfDirect came
-MayCome (Check file) text came = IsOfCheck text file came
-MayCome (Collect file) text came = came ≡ BadWords
-MayCome (Generate number count) text came = came ≡ BadWords
-MayCome NoCommand text came = came ≡ BadWords
+-- what FILE says is run: its description, which is built or isn't, with the elements of the files that it names
+abbrev pub IsPlanOf : (List ℕ → TextSeen) → List ℕ → Bool → Plan → Type 0
+IsPlanOf text file built Nothing = ⊥
+IsPlanOf text file built (OneFile place out) = ⊥
+IsPlanOf text file built (Described conf rows) = Describes text file conf × HasTable text conf.elements rows × (is_built conf ≡ built)
+
+-- a text's refusal comes before anything is planned
+abbrev pub IsOfTexts : (List ℕ → TextSeen) → List ℕ → Plan → Refusal → Type 0
+IsOfTexts text file plan refusal = (plan ≡ Nothing) × Judges text file (Err refusal)
+
+-- what may come of `collect`: its texts' first fault, a description that isn't built, and else what comes of running it
+abbrev pub IsOfCollect : (List ℕ → TextSeen) → List ℕ → Plan → Came → Type 0
+IsOfCollect text file plan BadWords = ⊥
+IsOfCollect text file plan Fine = ⊥
+IsOfCollect text file plan (Refused (NoText name) n m) = IsOfTexts text file plan (NoText name)
+IsOfCollect text file plan (Refused (BadDescription fault) n m) = IsOfTexts text file plan (BadDescription fault)
+IsOfCollect text file plan (Refused (BadElements name fault) n m) = IsOfTexts text file plan (BadElements name fault)
+IsOfCollect text file plan (Refused NotBuilt n m) = IsPlanOf text file false plan
+IsOfCollect text file plan (Refused (NoSource i) n m) = IsPlanOf text file true plan
+IsOfCollect text file plan (Refused NoLog n m) = IsPlanOf text file true plan
+IsOfCollect text file plan (Refused (NoOutput j) n m) = IsPlanOf text file true plan
+IsOfCollect text file plan (Refused NoMemory n m) = (plan ≡ Nothing) ⊎ IsPlanOf text file true plan
+IsOfCollect text file plan (Ran run) = IsPlanOf text file true plan
+
+-- what may come of a command, and what it runs: words of none are refused, and so are those of commands that aren't built yet
+abbrev pub MayCome : Command → (List ℕ → TextSeen) → Plan → Came → Type 0
+MayCome (Direct place out) text plan came = (plan ≡ OneFile place out) × IsOfDirect came
+MayCome (Check file) text plan came = (plan ≡ Nothing) × IsOfCheck text file came
+MayCome (Collect file) text plan came = (plan ≡ Nothing) × (came ≡ BadWords)
+MayCome (Generate number count) text plan came = (plan ≡ Nothing) × (came ≡ BadWords)
+MayCome NoCommand text plan came = (plan ≡ Nothing) × (came ≡ BadWords)
 
 module _ {S : Type 0} (left : S → Option (List Scripted)) (faults : S → ℕ) where
   -- What came of a call gives all that the Site shows after it, what was said, and the status.
-  pub record CallsAs (command : Command) (came : Came) (said : Result (Unit {0}) OutsideFault) (old new : Seen) (status : ℕ) : Type 0 where
-    pub may : MayCome command old.text came
-    pub comes : Comes left faults OutputText (parties_of command) came old new
-    pub says : Said said old.say new.say (lines_of (parties_of command) came)
+  pub record CallsAs (allowed : (List ℕ → TextSeen) → Plan → Came → Type 0) (plan : Plan) (came : Came) (said : Result (Unit {0}) OutsideFault) (old new : Seen) (status : ℕ) : Type 0 where
+    pub may : allowed old.text plan came
+    pub comes : Comes left faults plan came old new
+    pub says : Said said old.say new.say (lines_of plan came)
     pub answers : status ≡ status_of came said
 
+  -- of a call of which this may come
+  abbrev pub CallsOf : ((List ℕ → TextSeen) → Plan → Came → Type 0) → Seen → Seen → ℕ → Type 0
+  CallsOf allowed old new status = (plan : Plan) × (came : Came) × (said : Result (Unit {0}) OutsideFault) × CallsAs allowed plan came said old new status
+
   abbrev pub Calls : Command → Seen → Seen → ℕ → Type 0
-  Calls command old new status = (came : Came) × (said : Result (Unit {0}) OutsideFault) × CallsAs command came said old new status
+  Calls command old new status = CallsOf (MayCome command) old new status
+
+  -- what the run of a description promises
+  abbrev pub Collects : List ℕ → Seen → Seen → ℕ → Type 0
+  Collects file old new status = CallsOf (λ text plan came. IsOfCollect text file plan came) old new status

@@ -1,6 +1,7 @@
 -- How inputs and outputs end, and what is left of a source and written to a sink then.
-use Rattle.std.specs.Prelude.{ℕ, ◌≡◌, ◌<◌, ◌^◌, Bool, true, false, List, [], ◌∷◌, ◌++◌, ⊤, Option, Some, None, length, take}
+use Rattle.std.specs.Prelude.{ℕ, ◌≡◌, ◌⊎◌, ◌<◌, ◌≤◌, ◌^◌, Bool, true, false, List, [], ◌∷◌, ◌++◌, ⊤, Option, Some, None, length, take}
 use Rattle.arrival_spec.specs.declared.event.Scripted.{Scripted}
+use Rattle.arrival_spec.specs.Events.{events_of}
 use Rattle.site_io.specs.Writes.{Grows}
 use Rattle.site_io.specs.declared.outside.OutsideFault.{OutsideFault}
 use Rattle.site_io.specs.declared.outside.OutsideFault.TheVariants as fault
@@ -33,6 +34,25 @@ EndsReading left now_left given beyond end.Limit = (beyond ≡ []) × (length gi
 EndsReading left now_left given beyond end.Memory = beyond ≡ []
 EndsReading left now_left given beyond end.NotBuilt = IsBeyond given beyond × (length given < 2 ^ 48)
 
+-- an input that ends after so many events, 0 being no limit, has taken them all; or it took no more than they are
+abbrev pub IsFull : ℕ → List Scripted → Type 0
+IsFull limit given = (0 < limit) × (length (events_of given) ≡ limit)
+
+abbrev pub IsWithin : ℕ → List Scripted → Type 0
+IsWithin limit given = (limit ≡ 0) ⊎ (length (events_of given) ≤ limit)
+
+abbrev pub HasRoom : ℕ → List Scripted → Type 0
+HasRoom limit given = (limit ≡ 0) ⊎ (length (events_of given) < limit)
+
+-- The end of an input of a description, which ends after so many events: nothing is left of its source, or it has taken
+-- them all. A source fails before that. No input has another limit yet, and all events are built.
+abbrev pub EndsInput : ℕ → Option (List Scripted) → Option (List Scripted) → List Scripted → InputEnd → Bool → Type 0
+EndsInput limit left now_left given end.End failed = (failed ≡ false) × ((IsNothingLeft left now_left × IsWithin limit given) ⊎ IsFull limit given)
+EndsInput limit left now_left given end.Failed failed = (failed ≡ true) × HasRoom limit given
+EndsInput limit left now_left given end.Limit failed = ⊥
+EndsInput limit left now_left given end.Memory failed = IsWithin limit given
+EndsInput limit left now_left given end.NotBuilt failed = ⊥
+
 -- whether the source failed
 abbrev pub source_failed : InputEnd → Bool
 source_failed end.End = false
@@ -62,3 +82,13 @@ GrowsByFront old new text = (n : ℕ) × Grows old new (take n text)
 abbrev pub GrowsAs : Bool → Option (List ℕ) → Option (List ℕ) → List ℕ → Type 0
 GrowsAs false old new text = Grows old new text
 GrowsAs true old new text = GrowsByFront old new text
+
+-- a sink name that told what it held shows a text now, and no other octets
+abbrev pub Holds : Option (List ℕ) → Option (List ℕ) → List ℕ → Type 0
+Holds None now text = ⊤
+Holds (Some old) now text = now ≡ Some text
+
+-- the whole text, or a front of it where it was cut off
+abbrev pub HoldsAs : Bool → Option (List ℕ) → Option (List ℕ) → List ℕ → Type 0
+HoldsAs false old now text = Holds old now text
+HoldsAs true old now text = (n : ℕ) × Holds old now (take n text)

@@ -1,18 +1,26 @@
 -- What came of a call, and what it says of the Site before and after: what was tried and what failed by name, and what
 -- places, sinks and texts hold.
-use Rattle.std.specs.Prelude.{ℕ, ◌≡◌, ◌⊎◌, ◌+◌, ◌-◌, ◌<◌, ◌≤◌, ◌||◌, ⊤, Bool, true, false, List, [], ◌∷◌, ◌++◌, Option, Some, None, IsSome, is_some, map, take, drop, length}
+use Rattle.std.specs.Prelude.{ℕ, ◌≡◌, ◌⊎◌, ◌+◌, ◌-◌, ◌<◌, ◌≤◌, ◌||◌, ⊤, Bool, true, false, List, [], ◌∷◌, ◌++◌, Option, Some, None, MatchOption, IsSome, is_some, map, take, drop, length}
 use Rattle.std.specs.List.{list_any}
 use Rattle.arrival_spec.specs.declared.event.Scripted.{Scripted}
+use Rattle.arrival_spec.specs.Arrival.{Arrival}
+use Rattle.config_spec.specs.declared.conf.Conf.{Conf}
 use Rattle.site_io.specs.declared.outside.OutsideFault.{OutsideFault}
 use Rattle.site_io.specs.Seen.{Seen, PlaceSeen, SinkSeen}
+use Rattle.run_spec.specs.Merge.{IsPartial, list_at, times as times_in}
+use Rattle.count_spec.specs.Run.{ArePrinted}
+use Rattle.result_spec.specs.Result.{inputs_of, arrivals_from, IsRunResult}
 use Rattle.call_spec.specs.Pairs.{Each}
 use Rattle.call_spec.specs.Names.{times, has, marked}
 use Rattle.call_spec.specs.Counts.{TextKept, PlaceKept, SinkKept}
-use Rattle.call_spec.specs.Built.{IsFileText, IsBuilt}
-use Rattle.call_spec.specs.Ends.{TakenFrom, EndsReading, source_failed, wants_memory, has_failed}
+use Rattle.call_spec.specs.Built.{FileText, IsBuilt}
+use Rattle.call_spec.specs.Ends.{TakenFrom, EndsReading, EndsInput, HoldsAs, source_failed, wants_memory, has_failed}
+use Rattle.call_spec.specs.Log.{HoldsLog}
 use Rattle.call_spec.specs.Came.{Party, Parties, Refusal, InputCame, RunCame, Came, taken_of}
-use Rattle.call_spec.specs.Came.Refusal.{NoText, BadDescription, BadElements, NoSource, NoLog, NoOutput, NoMemory}
+use Rattle.call_spec.specs.Came.Refusal.{NoText, BadDescription, BadElements, NotBuilt, NoSource, NoLog, NoOutput, NoMemory}
 use Rattle.call_spec.specs.Came.Came.{BadWords, Fine, Refused, Ran}
+use Rattle.call_spec.specs.Plan.{Plan, parties_of}
+use Rattle.call_spec.specs.Plan.Plan.{Nothing, OneFile, Described}
 
 -- ---- which names were tried, and of which something failed
 
@@ -36,6 +44,7 @@ abbrev pub failed_text : Refusal → List (List ℕ)
 failed_text (NoText name) = name ∷ []
 failed_text (BadDescription fault) = []
 failed_text (BadElements name fault) = []
+failed_text NotBuilt = []
 failed_text (NoSource i) = []
 failed_text NoLog = []
 failed_text (NoOutput j) = []
@@ -51,6 +60,7 @@ abbrev pub refused_place : Parties → Refusal → List (List ℕ)
 refused_place parties (NoText name) = []
 refused_place parties (BadDescription fault) = []
 refused_place parties (BadElements name fault) = []
+refused_place parties NotBuilt = []
 refused_place parties (NoSource i) = take 1 (drop i (at_of parties.inputs))
 refused_place parties NoLog = []
 refused_place parties (NoOutput j) = []
@@ -60,6 +70,7 @@ abbrev pub refused_sink : Parties → Refusal → List (List ℕ)
 refused_sink parties (NoText name) = []
 refused_sink parties (BadDescription fault) = []
 refused_sink parties (BadElements name fault) = []
+refused_sink parties NotBuilt = []
 refused_sink parties (NoSource i) = []
 refused_sink parties NoLog = take 1 (sink_names parties)
 refused_sink parties (NoOutput j) = take 1 (drop j (at_of parties.outputs))
@@ -75,7 +86,7 @@ abbrev pub failed_places : Parties → Came → List (List ℕ)
 failed_places parties BadWords = []
 failed_places parties Fine = []
 failed_places parties (Refused refusal n m) = refused_place parties refusal
-failed_places parties (Ran run) = marked (at_of parties.inputs) (map (λ (c : InputCame). source_failed c.end) run.inputs)
+failed_places parties (Ran run) = marked (at_of parties.inputs) (map (λ (c : InputCame). c.failed) run.inputs)
 
 abbrev pub tried_sinks : Parties → Came → List (List ℕ)
 tried_sinks parties BadWords = []
@@ -95,6 +106,7 @@ abbrev pub IsRefusal : Parties → Refusal → ℕ → ℕ → Type 0
 IsRefusal parties (NoText name) n m = (n ≡ 0) × (m ≡ 0)
 IsRefusal parties (BadDescription fault) n m = (n ≡ 0) × (m ≡ 0)
 IsRefusal parties (BadElements name fault) n m = (n ≡ 0) × (m ≡ 0)
+IsRefusal parties NotBuilt n m = (n ≡ 0) × (m ≡ 0)
 IsRefusal parties (NoSource i) n m = (n ≡ i + 1) × (i < length parties.inputs) × (m ≡ 0)
 IsRefusal parties NoLog n m = (n ≡ length parties.inputs) × (m ≡ 1) × IsSome parties.log
 IsRefusal parties (NoOutput j) n m = (n ≡ length parties.inputs) × (j < length parties.outputs) × (m ≡ length (log_and parties.log (take (j + 1) (at_of parties.outputs))))
@@ -105,6 +117,7 @@ abbrev pub emptied_sinks : Parties → Refusal → ℕ → List (List ℕ)
 emptied_sinks parties (NoText name) m = []
 emptied_sinks parties (BadDescription fault) m = []
 emptied_sinks parties (BadElements name fault) m = []
+emptied_sinks parties NotBuilt m = []
 emptied_sinks parties (NoSource i) m = []
 emptied_sinks parties NoLog m = []
 emptied_sinks parties (NoOutput j) m = take (m - 1) (sink_names parties)
@@ -121,19 +134,63 @@ abbrev pub KeepsHeld : Bool → SinkSeen → SinkSeen → Type 0
 KeepsHeld false old new = new.held ≡ old.held
 KeepsHeld true old new = (octets : List ℕ) → old.held ≡ Some octets → (new.held ≡ Some octets) ⊎ (new.held ≡ Some [])
 
--- a sink name that told what it held shows a text now, and no other octets
-abbrev pub Holds : Option (List ℕ) → Option (List ℕ) → List ℕ → Type 0
-Holds None now text = ⊤
-Holds (Some old) now text = now ≡ Some text
+-- ---- a run
 
--- the whole text, or a front of it where it was cut off
-abbrev pub HoldsAs : Bool → Option (List ℕ) → Option (List ℕ) → List ℕ → Type 0
-HoldsAs false old now text = Holds old now text
-HoldsAs true old now text = (n : ℕ) × Holds old now (take n text)
+abbrev pub given_of : RunCame → List (List Scripted)
+given_of run = map (λ (c : InputCame). c.given) run.inputs
 
--- an output's text is cut off where the output ended, or where an input wanted memory
-abbrev pub is_cut : List InputCame → Option OutsideFault → Bool
-is_cut inputs f = is_some f || list_any (λ (c : InputCame). wants_memory c.end) inputs
+-- the arrivals of each input of a description
+abbrev pub arrivals_in : Conf → RunCame → List (List (Arrival (List ℕ)))
+arrivals_in conf run = arrivals_from (inputs_of conf) 0 (given_of run)
+
+-- after how many events an input ends
+abbrev pub limit_of : Conf → ℕ → ℕ
+limit_of conf k = (inputs_of conf k).stop_after
+
+-- how an input ended, by what it runs: that of one file ends behind 2 ^ 48 answers as well, and takes one stream alone
+abbrev pub Ends : Plan → ℕ → Option (List Scripted) → Option (List Scripted) → InputCame → Type 0
+Ends Nothing k left now_left came = ⊥
+Ends (OneFile place out) k left now_left came = EndsReading left now_left came.given came.beyond came.end × (came.failed ≡ source_failed came.end) × IsBuilt came.given
+Ends (Described conf rows) k left now_left came = EndsInput (limit_of conf k) left now_left came.given came.end came.failed × (came.beyond ≡ [])
+
+-- an input whose arrivals need not all have been worked off: it wanted memory, or the log ended
+abbrev pub is_short : RunCame → ℕ → Bool
+is_short run k = is_some run.log || list_any (λ (c : InputCame). wants_memory c.end) (take 1 (drop k run.inputs))
+
+-- The order takes of each input's arrivals the first ones, and else all.
+pub record IsOrder {X : Type 0} (run : RunCame) (lists : List (List X)) : Type 0 where
+  pub first : IsPartial run.order lists
+  pub all : (k : ℕ) → is_short run k ≡ false → times_in k run.order ≡ length (list_at lists k)
+
+abbrev pub IsOrdered : Plan → RunCame → Type 0
+IsOrdered Nothing run = ⊥
+IsOrdered (OneFile place out) run = ⊤
+IsOrdered (Described conf rows) run = IsOrder run (arrivals_in conf run)
+
+-- the text of an output: of one file that of what it gave, and of a description that of the arrivals in their order
+abbrev pub OutputText : Plan → RunCame → ℕ → List ℕ → Type 0
+OutputText Nothing run j text = ⊥
+OutputText (OneFile place out) run j text = FileText run.inputs text
+OutputText (Described conf rows) run j text = IsRunResult conf rows (given_of run) run.order j text
+
+-- an output's text is cut off where the output ended or an intermediate wanted memory, and that of one file also where its
+-- input did
+abbrev pub is_cut : Plan → RunCame → Option OutsideFault → Bool
+is_cut Nothing run f = is_some f
+is_cut (OneFile place out) run f = is_some f || list_any (λ (c : InputCame). wants_memory c.end) run.inputs
+is_cut (Described conf rows) run f = is_some f || list_any (λ b. b) run.stages
+
+-- what the log shows
+abbrev pub LogHolds : Plan → RunCame → (List ℕ → SinkSeen) → (List ℕ → SinkSeen) → Type 0
+LogHolds Nothing run old new = ⊥
+LogHolds (OneFile place out) run old new = run.log ≡ None
+LogHolds (Described conf rows) run old new = MatchOption conf.order_log (run.log ≡ None) (λ path. HoldsLog run.log (arrivals_in conf run) (old path).held (new path).held run.order)
+
+-- what was counted, unless memory was wanted to count it
+abbrev pub IsCounted : Plan → RunCame → Type 0
+IsCounted Nothing run = ⊥
+IsCounted (OneFile place out) run = ⊤
+IsCounted (Described conf rows) run = list_any (λ (c : InputCame). wants_memory c.end) run.inputs ≡ false → ArePrinted (inputs_of conf) (given_of run) run.counts
 
 module _ {S : Type 0} (left : S → Option (List Scripted)) (faults : S → ℕ) where
   -- a source that had not failed yet had given these events
@@ -141,29 +198,32 @@ module _ {S : Type 0} (left : S → Option (List Scripted)) (faults : S → ℕ)
   GaveUnfailed old given = (source : S) × (faults source ≡ 0) × TakenFrom old (left source) given
 
   -- what an input gave: its place has lost it, and nothing more; the source gave all of it before it failed, if it did
-  pub record Gave (old new : Seen) (k : ℕ) (party : Party) (came : InputCame) : Type 0 where
+  pub record Gave (plan : Plan) (old new : Seen) (k : ℕ) (party : Party) (came : InputCame) : Type 0 where
     pub taken : TakenFrom (old.place party.at).left (new.place party.at).left (taken_of came)
     pub unfailed : GaveUnfailed (old.place party.at).left (taken_of came)
-    pub ends : EndsReading (old.place party.at).left (new.place party.at).left came.given came.beyond came.end
-    pub built : IsBuilt came.given
+    pub ends : Ends plan k (old.place party.at).left (new.place party.at).left came
 
-  -- a run: each input gave its events, and each output has its text of them
-  pub record RunLeaves (Text : ℕ → List InputCame → List ℕ → Type 0) (parties : Parties) (run : RunCame) (old new : Seen) : Type 0 where
-    pub gave : Each (Gave old new) 0 parties.inputs run.inputs
-    pub no_log : parties.log ≡ None → run.log ≡ None
-    pub holds : Each (λ j (party : Party) f. (text : List ℕ) × Text j run.inputs text × HoldsAs (is_cut run.inputs f) (old.sink party.at).held (new.sink party.at).held text) 0 parties.outputs run.outputs
+  -- a run: each input gave its events, their arrivals were worked off in an order that the log shows, and each output has
+  -- its text of them
+  pub record RunLeaves (plan : Plan) (run : RunCame) (old new : Seen) : Type 0 where
+    pub gave : Each (Gave plan old new) 0 (parties_of plan).inputs run.inputs
+    pub ordered : IsOrdered plan run
+    pub logged : LogHolds plan run old.sink new.sink
+    pub stages : length run.stages ≡ length (parties_of plan).stages
+    pub holds : Each (λ j (party : Party) f. (text : List ℕ) × OutputText plan run j text × HoldsAs (is_cut plan run f) (old.sink party.at).held (new.sink party.at).held text) 0 (parties_of plan).outputs run.outputs
+    pub counted : IsCounted plan run
 
   -- a call without a run took nothing and wrote nothing
-  abbrev pub Leaves : (ℕ → List InputCame → List ℕ → Type 0) → Parties → Came → Seen → Seen → Type 0
-  Leaves Text parties BadWords old new = ⊤
-  Leaves Text parties Fine old new = ⊤
-  Leaves Text parties (Refused refusal n m) old new =
-      IsRefusal parties refusal n m × ((p : List ℕ) → KeepsLeft (old.place p) (new.place p)) × ((p : List ℕ) → KeepsHeld (has p (emptied_sinks parties refusal m)) (old.sink p) (new.sink p))
-  Leaves Text parties (Ran run) old new = RunLeaves Text parties run old new
+  abbrev pub Leaves : Plan → Came → Seen → Seen → Type 0
+  Leaves plan BadWords old new = ⊤
+  Leaves plan Fine old new = ⊤
+  Leaves plan (Refused refusal n m) old new =
+      IsRefusal (parties_of plan) refusal n m × ((p : List ℕ) → KeepsLeft (old.place p) (new.place p)) × ((p : List ℕ) → KeepsHeld (has p (emptied_sinks (parties_of plan) refusal m)) (old.sink p) (new.sink p))
+  Leaves plan (Ran run) old new = RunLeaves plan run old new
 
   -- what came of a call, but for what it says
-  pub record Comes (Text : ℕ → List InputCame → List ℕ → Type 0) (parties : Parties) (came : Came) (old new : Seen) : Type 0 where
+  pub record Comes (plan : Plan) (came : Came) (old new : Seen) : Type 0 where
     pub texts : (p : List ℕ) → TextKept (has p (failed_texts came)) (old.text p) (new.text p)
-    pub places : (p : List ℕ) → PlaceKept (times p (tried_places parties came)) (has p (failed_places parties came)) (old.place p) (new.place p)
-    pub sinks : (p : List ℕ) → SinkKept (times p (tried_sinks parties came)) (has p (failed_sinks parties came)) (old.sink p) (new.sink p)
-    pub leaves : Leaves Text parties came old new
+    pub places : (p : List ℕ) → PlaceKept (times p (tried_places (parties_of plan) came)) (has p (failed_places (parties_of plan) came)) (old.place p) (new.place p)
+    pub sinks : (p : List ℕ) → SinkKept (times p (tried_sinks (parties_of plan) came)) (has p (failed_sinks (parties_of plan) came)) (old.sink p) (new.sink p)
+    pub leaves : Leaves plan came old new

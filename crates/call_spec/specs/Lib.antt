@@ -3,7 +3,10 @@ pub mod Names
 pub mod Counts
 pub mod Built
 pub mod Ends
+pub mod Log
 pub mod Came
+pub mod Plan
+pub mod Summary
 pub mod Lines
 pub mod Status
 pub mod Texts

@@ -1,5 +1,5 @@
 -- The lines that a call says.
-use Rattle.std.specs.Prelude.{ℕ, ◌≡◌, List, [], ◌∷◌, ◌++◌, Option, Some, None, Result, Ok, Err, true, codes, map, take, drop, flat_map}
+use Rattle.std.specs.Prelude.{ℕ, ◌≡◌, List, [], ◌∷◌, ◌++◌, Option, Some, None, Result, Ok, Err, Bool, true, false, codes, map, take, drop, flat_map}
 use Rattle.config_spec.specs.First.{fault_text}
 use Rattle.element_spec.specs.Faults as elements
 use Rattle.site_io.specs.declared.outside.OutsideFault.{OutsideFault}
@@ -9,10 +9,13 @@ use Rattle.site_io.specs.Writes.{Grows}
 use Rattle.call_spec.specs.declared.end.InputEnd.{InputEnd}
 use Rattle.call_spec.specs.declared.end.InputEnd.TheVariants as end
 use Rattle.call_spec.specs.Came.{Party, Parties, Refusal, InputCame, RunCame, Came}
-use Rattle.call_spec.specs.Came.Refusal.{NoText, BadDescription, BadElements, NoSource, NoLog, NoOutput, NoMemory}
+use Rattle.call_spec.specs.Came.Refusal.{NoText, BadDescription, BadElements, NotBuilt, NoSource, NoLog, NoOutput, NoMemory}
 use Rattle.call_spec.specs.Came.Came.{BadWords, Fine, Refused, Ran}
 use Rattle.call_spec.specs.Counts.{MovesBy}
 use Rattle.call_spec.specs.Ends.{GrowsByFront}
+use Rattle.call_spec.specs.Plan.{Plan, parties_of}
+use Rattle.call_spec.specs.Plan.Plan.{Nothing, OneFile, Described}
+use Rattle.call_spec.specs.Summary.{summary_text}
 
 unfoldable pub usage_text : List ℕ
 usage_text = codes "usage: ipfixcol direct IN OUT, check -c FILE, collect -c FILE, generate NUMBER COUNT\n"
@@ -74,19 +77,20 @@ sink_line name None = []
 sink_line name (Some fault.Failed) = named_line sink_start name
 sink_line name (Some fault.NoMemory) = named_line memory_start name
 
-abbrev pub input_lines : List (List ℕ) → List InputEnd → List ℕ
-input_lines [] ends = []
-input_lines (name ∷ names) [] = []
-input_lines (name ∷ names) (e ∷ ends) = input_line name e ++ input_lines names ends
-
-abbrev pub sink_lines : List (List ℕ) → List (Option OutsideFault) → List ℕ
-sink_lines [] faults = []
-sink_lines (name ∷ names) [] = []
-sink_lines (name ∷ names) (f ∷ faults) = sink_line name f ++ sink_lines names faults
+-- the lines of all of some names, each by what came to it
+abbrev pub lines_by : {B : Type 0} → (List ℕ → B → List ℕ) → List (List ℕ) → List B → List ℕ
+lines_by line [] came = []
+lines_by line (name ∷ names) [] = []
+lines_by line (name ∷ names) (b ∷ came) = line name b ++ lines_by line names came
 
 abbrev pub log_line : Option (List ℕ) → Option OutsideFault → List ℕ
 log_line None f = []
 log_line (Some path) f = sink_line log_name f
+
+-- the line of an intermediate, which can want memory alone
+abbrev pub stage_line : List ℕ → Bool → List ℕ
+stage_line name false = []
+stage_line name true = named_line memory_start name
 
 abbrev pub names_of : List Party → List (List ℕ)
 names_of parties = map (λ (p : Party). p.name) parties
@@ -95,17 +99,32 @@ abbrev pub refusal_line : Parties → Refusal → List ℕ
 refusal_line parties (NoText name) = named_line source_start name
 refusal_line parties (BadDescription fault) = named_line description_start (fault_text fault)
 refusal_line parties (BadElements name fault) = named_line (elements_head name) (elements.fault_text fault)
+refusal_line parties NotBuilt = not_built_text
 refusal_line parties (NoSource i) = flat_map (λ name. input_line name end.Failed) (take 1 (drop i (names_of parties.inputs)))
 refusal_line parties NoLog = sink_line log_name (Some fault.Failed)
 refusal_line parties (NoOutput j) = flat_map (λ name. sink_line name (Some fault.Failed)) (take 1 (drop j (names_of parties.outputs)))
 refusal_line parties NoMemory = memory_text
 
--- the lines of what came of a call: of a run, those of the inputs, of the log and of the outputs
-abbrev pub lines_of : Parties → Came → List ℕ
-lines_of parties BadWords = usage_text
-lines_of parties Fine = fine_text
-lines_of parties (Refused refusal n m) = refusal_line parties refusal
-lines_of parties (Ran run) = input_lines (names_of parties.inputs) (map (λ (c : InputCame). c.end) run.inputs) ++ (log_line parties.log run.log ++ sink_lines (names_of parties.outputs) run.outputs)
+abbrev pub ends_of : RunCame → List InputEnd
+ends_of run = map (λ (c : InputCame). c.end) run.inputs
+
+-- the lines of a run's faults: those of the inputs, of the log, of the intermediates and of the outputs
+abbrev pub fault_lines : Parties → RunCame → List ℕ
+fault_lines parties run = lines_by input_line (names_of parties.inputs) (ends_of run)
+    ++ (log_line parties.log run.log ++ (lines_by stage_line parties.stages run.stages ++ lines_by sink_line (names_of parties.outputs) run.outputs))
+
+-- the summary of a run
+abbrev pub summary_of : Plan → RunCame → List ℕ
+summary_of Nothing run = []
+summary_of (OneFile place out) run = []
+summary_of (Described conf rows) run = summary_text run.counts
+
+-- the lines of what came of a call: of a run those of its faults, and then its summary
+abbrev pub lines_of : Plan → Came → List ℕ
+lines_of plan BadWords = usage_text
+lines_of plan Fine = fine_text
+lines_of plan (Refused refusal n m) = refusal_line (parties_of plan) refusal
+lines_of plan (Ran run) = fault_lines (parties_of plan) run ++ summary_of plan run
 
 -- a text was said whole, or a front of it where saying failed, which is counted, or memory was wanted
 abbrev pub Said : Result (Unit {0}) OutsideFault → SaidSeen → SaidSeen → List ℕ → Type 0

@@ -1,11 +1,11 @@
 -- The status of a call, from what came of it and of saying its lines.
-use Rattle.std.specs.Prelude.{ℕ, List, Option, Some, None, Result, Ok, Err, map, fold, max}
+use Rattle.std.specs.Prelude.{ℕ, cond, Bool, List, Option, Some, None, Result, Ok, Err, map, fold, max}
 use Rattle.site_io.specs.declared.outside.OutsideFault.{OutsideFault}
 use Rattle.site_io.specs.declared.outside.OutsideFault.TheVariants as fault
 use Rattle.call_spec.specs.declared.end.InputEnd.{InputEnd}
 use Rattle.call_spec.specs.declared.end.InputEnd.TheVariants as end
 use Rattle.call_spec.specs.Came.{Refusal, InputCame, RunCame, Came}
-use Rattle.call_spec.specs.Came.Refusal.{NoText, BadDescription, BadElements, NoSource, NoLog, NoOutput, NoMemory}
+use Rattle.call_spec.specs.Came.Refusal.{NoText, BadDescription, BadElements, NotBuilt, NoSource, NoLog, NoOutput, NoMemory}
 use Rattle.call_spec.specs.Came.Came.{BadWords, Fine, Refused, Ran}
 
 abbrev pub end_code : InputEnd → ℕ
@@ -35,6 +35,7 @@ abbrev pub refusal_code : Refusal → ℕ
 refusal_code (NoText name) = 3
 refusal_code (BadDescription fault) = 2
 refusal_code (BadElements name fault) = 2
+refusal_code NotBuilt = 2
 refusal_code (NoSource i) = 3
 refusal_code NoLog = 4
 refusal_code (NoOutput j) = 4
@@ -43,9 +44,12 @@ refusal_code NoMemory = 6
 abbrev pub worst : List ℕ → ℕ
 worst codes = fold max 0 codes
 
--- of a run the greatest that came to an input, the log or an output
+abbrev pub stage_code : Bool → ℕ
+stage_code wants = cond wants 6 0
+
+-- of a run the greatest that came to an input, the log, an intermediate or an output
 abbrev pub run_code : RunCame → ℕ
-run_code run = max (worst (map (λ (c : InputCame). end_code c.end) run.inputs)) (max (fault_code run.log) (worst (map fault_code run.outputs)))
+run_code run = max (worst (map (λ (c : InputCame). end_code c.end) run.inputs)) (max (fault_code run.log) (max (worst (map stage_code run.stages)) (worst (map fault_code run.outputs))))
 
 abbrev pub status_of : Came → Result (Unit {0}) OutsideFault → ℕ
 status_of BadWords said = 1

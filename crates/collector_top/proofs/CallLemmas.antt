@@ -9,52 +9,54 @@ use Rattle.words_spec.specs.Commands.Command.{Direct, Check}
 use Rattle.call_spec.specs.declared.end.InputEnd.{InputEnd}
 use Rattle.call_spec.specs.Names.{times, has}
 use Rattle.call_spec.specs.Counts.{MovesBy, TextKept, PlaceKept, SinkKept}
-use Rattle.call_spec.specs.Ends.{TakenFrom, source_failed, wants_memory, has_failed}
+use Rattle.call_spec.specs.Ends.{TakenFrom, source_failed, wants_memory, has_failed, HoldsAs}
 use Rattle.call_spec.specs.Pairs.{Each}
 use Rattle.call_spec.specs.Came.{Came, InputCame}
 use Rattle.call_spec.specs.Came.Refusal.{NoSource, NoOutput, NoMemory, NoText, BadDescription, BadElements}
 use Rattle.call_spec.specs.Came.Came.{BadWords, Fine, Refused}
 use Rattle.call_spec.specs.Came.Came.{Ran as RanCame}
 use Rattle.call_spec.specs.Texts.{Judges}
-use Rattle.call_spec.specs.Leaves.{failed_text, refused_place, refused_sink, emptied_sinks, IsRefusal, KeepsHeld, HoldsAs, Leaves, Comes, RunLeaves, Gave}
+use Rattle.call_spec.specs.Leaves.{failed_text, refused_place, refused_sink, emptied_sinks, IsRefusal, KeepsHeld, Leaves, Comes, RunLeaves, Gave}
 use Rattle.call_spec.specs.Lines as lines
 use Rattle.call_spec.specs.Status as codes
 use Rattle.call_spec.specs.Lines.{Said, lines_of, input_line, sink_line, fine_text, usage_text}
 use Rattle.call_spec.specs.Status.{status_of, end_code, fault_code, said_code, wanted_code}
-use Rattle.call_spec.specs.Call.{in_name, out_name, no_parties, direct_parties, OutputText, MayCome, parties_of, Calls}
+use Rattle.call_spec.specs.Plan.{Plan, in_name, out_name, no_parties, direct_parties}
+use Rattle.call_spec.specs.Plan.Plan.{Nothing, OneFile}
+use Rattle.call_spec.specs.Call.{MayCome, IsOfDirect, Calls}
 use Rattle.file_lines.specs.declared.run.Ended.{Ended}
 use Rattle.file_lines.specs.Run.{Ran}
 use Rattle.collector_top.specs.declared.direct.Unopened.{Unopened}
 use Rattle.collector_top.specs.declared.direct.Unopened.TheVariants as unopened
 use Rattle.collector_top.specs.declared.verdict.Refusal.{Refusal}
 use Rattle.collector_top.specs.declared.verdict.Refusal.TheVariants as refusal
-use Rattle.collector_top.specs.Says.{Says}
+use Rattle.run_lines.specs.Says.{Says}
 use Rattle.collector_top.specs.Direct.{refusal_of, unopened_line, unopened_code, one_run, CameToRun, CameToRefusal}
 use Rattle.collector_top.specs.Check.{reason_of, meant, refusal_line, refusal_code, OneFails, CountsTexts, KeepsRest}
 use Rattle.collector_top.proofs.OpenLemmas.{same_or, still, unsunk, unread, by_name, failed_here, failed_away, marked_here, marked_away, place_back, place_refused, sink_back, sink_refused, place_taken, place_ends, place_left, sink_holds_as, or_none}
 
 module _ {S : Type 0} (left : S → Option (List Scripted)) (faults : S → ℕ) where
   -- what was said changes nothing that came
-  comes_still : (place out : List ℕ) (came : Came) (a b c : Seen) → ChangesSay b c → Comes left faults OutputText (direct_parties place out) came a b → Comes left faults OutputText (direct_parties place out) came a c
+  comes_still : (place out : List ℕ) (came : Came) (a b c : Seen) → ChangesSay b c → Comes left faults (OneFile place out) came a b → Comes left faults (OneFile place out) came a c
   comes_still place out came a b c ch k =
-      subst (λ (f : List ℕ → TextSeen). Comes left faults OutputText (direct_parties place out) came a (record c { text = f })) (sym ch.texts)
-      (subst (λ (f : List ℕ → PlaceSeen). Comes left faults OutputText (direct_parties place out) came a (record c { text = b.text; place = f })) (sym ch.places)
-      (subst (λ (f : List ℕ → SinkSeen). Comes left faults OutputText (direct_parties place out) came a (record c { text = b.text; place = b.place; sink = f })) (sym ch.sinks)
+      subst (λ (f : List ℕ → TextSeen). Comes left faults (OneFile place out) came a (record c { text = f })) (sym ch.texts)
+      (subst (λ (f : List ℕ → PlaceSeen). Comes left faults (OneFile place out) came a (record c { text = b.text; place = f })) (sym ch.places)
+      (subst (λ (f : List ℕ → SinkSeen). Comes left faults (OneFile place out) came a (record c { text = b.text; place = b.place; sink = f })) (sym ch.sinks)
       (record { texts = k.texts; places = k.places; sinks = k.sinks; leaves = leaves_still came k.leaves })))
     where
-      leaves_still : (came : Came) → Leaves left faults OutputText (direct_parties place out) came a b → Leaves left faults OutputText (direct_parties place out) came a (record c { text = b.text; place = b.place; sink = b.sink })
+      leaves_still : (came : Came) → Leaves left faults (OneFile place out) came a b → Leaves left faults (OneFile place out) came a (record c { text = b.text; place = b.place; sink = b.sink })
       leaves_still BadWords l = tt
       leaves_still Fine l = tt
       leaves_still (Refused r n m) l = l
-      leaves_still (RanCame run) l = record { gave = gives run.inputs l.gave; no_log = l.no_log; holds = l.holds }
+      leaves_still (RanCame run) l = record { gave = gives run.inputs l.gave; ordered = tt; logged = l.logged; stages = l.stages; holds = l.holds; counted = tt }
         where
-          gives : (inputs : List InputCame) → Each (Gave left faults a b) 0 (direct_parties place out).inputs inputs
-              → Each (Gave left faults a (record c { text = b.text; place = b.place; sink = b.sink })) 0 (direct_parties place out).inputs inputs
+          gives : (inputs : List InputCame) → Each (Gave left faults (OneFile place out) a b) 0 (direct_parties place out).inputs inputs
+              → Each (Gave left faults (OneFile place out) a (record c { text = b.text; place = b.place; sink = b.sink })) 0 (direct_parties place out).inputs inputs
           gives [] g = absurd g
-          gives (x ∷ inputs) g = (record { taken = g.0.taken; unfailed = g.0.unfailed; ends = g.0.ends; built = g.0.built }, rest inputs g.1)
+          gives (x ∷ inputs) g = (record { taken = g.0.taken; unfailed = g.0.unfailed; ends = g.0.ends }, rest inputs g.1)
             where
-              rest : (inputs : List InputCame) → Each (Gave left faults a b) 1 [] inputs
-                  → Each (Gave left faults a (record c { text = b.text; place = b.place; sink = b.sink })) 1 [] inputs
+              rest : (inputs : List InputCame) → Each (Gave left faults (OneFile place out) a b) 1 [] inputs
+                  → Each (Gave left faults (OneFile place out) a (record c { text = b.text; place = b.place; sink = b.sink })) 1 [] inputs
               rest [] g = tt
               rest (y ∷ inputs) g = absurd g
 
@@ -206,12 +208,13 @@ module _ {S : Type 0} (left : S → Option (List Scripted)) (faults : S → ℕ)
             record {
               taken = place_taken (a.place place).left (e.place place).left (left src) (left now_src) (r.given ++ r.beyond) g.told back.shown r.taken;
               unfailed = (r.unfailed.0, r.unfailed.1 ∙ g.fresh, place_taken (a.place place).left (left r.unfailed.0) (left src) (left r.unfailed.0) (r.given ++ r.beyond) g.told refl r.unfailed.2);
-              ends = place_ends (a.place place).left (e.place place).left (left src) (left now_src) r.given r.beyond ended.input g.told back.shown r.ends;
-              built = r.built;
+              ends = (place_ends (a.place place).left (e.place place).left (left src) (left now_src) r.given r.beyond ended.input g.told back.shown r.ends, refl, r.built);
             },
             tt,
           );
-          no_log = λ none. refl;
+          ordered = tt;
+          logged = refl;
+          stages = refl;
           holds = (
             (
               r.text,
@@ -222,6 +225,7 @@ module _ {S : Type 0} (left : S → Option (List Scripted)) (faults : S → ℕ)
             ),
             tt,
           );
+          counted = tt;
         };
       },
       ch4.say ∙ (ch3.say ∙ (ch2.say ∙ ch.say)),
@@ -229,10 +233,10 @@ module _ {S : Type 0} (left : S → Option (List Scripted)) (faults : S → ℕ)
 
   -- ---- what was said
 
-  one_line : (e : InputEnd) (f : Option OutsideFault) → input_line in_name e ++ sink_line out_name f ≡ (input_line in_name e ++ []) ++ ([] ++ (sink_line out_name f ++ []))
-  one_line e f = ap (λ l. l ++ sink_line out_name f) (sym (append-nil (input_line in_name e))) ∙ ap (λ l. (input_line in_name e ++ []) ++ l) (sym (append-nil (sink_line out_name f)))
+  one_line : (e : InputEnd) (f : Option OutsideFault) → input_line in_name e ++ sink_line out_name f ≡ ((input_line in_name e ++ []) ++ ([] ++ ([] ++ (sink_line out_name f ++ [])))) ++ []
+  one_line e f = (ap (λ l. l ++ sink_line out_name f) (sym (append-nil (input_line in_name e))) ∙ ap (λ l. (input_line in_name e ++ []) ++ l) (sym (append-nil (sink_line out_name f)))) ∙ sym (append-nil ((input_line in_name e ++ []) ++ (sink_line out_name f ++ [])))
 
-  most : (e f s : ℕ) → max (max e f) s ≡ max (max (max 0 e) (max 0 (max 0 f))) s
+  most : (e f s : ℕ) → max (max e f) s ≡ max (max (max 0 e) (max 0 (max 0 (max 0 f)))) s
   most e f s = omega arith
 
   pub calls_ran : (place out : List ℕ) (ended : Ended) (a b c : Seen) (status : ℕ) → CameToRun left faults place out a b ended
@@ -240,12 +244,13 @@ module _ {S : Type 0} (left : S → Option (List Scripted)) (faults : S → ℕ)
       → Calls left faults (Direct place out) a c status
   calls_ran place out ended a b c status k s =
       let came = RanCame (one_run k.0 k.1 ended) in (
+        OneFile place out,
         came,
         s.0,
         record {
-          may = tt;
+          may = (refl, tt);
           comes = comes_still place out came a b c s.1.rest k.2;
-          says = subst (λ (x : SaidSeen). Said s.0 x c.say (lines_of (direct_parties place out) came)) k.3 (subst (λ t. Said s.0 b.say c.say t) (one_line ended.input ended.output) s.1.text_said);
+          says = subst (λ (x : SaidSeen). Said s.0 x c.say (lines_of (OneFile place out) came)) k.3 (subst (λ t. Said s.0 b.say c.say t) (one_line ended.input ended.output) s.1.text_said);
           answers = s.2 ∙ most (end_code ended.input) (fault_code ended.output) (said_code s.0);
         },
       )
@@ -261,21 +266,22 @@ module _ {S : Type 0} (left : S → Option (List Scripted)) (faults : S → ℕ)
   refused_code unopened.NoSink = refl
   refused_code unopened.Memory = refl
 
-  may_refuse : (place out : List ℕ) (text : List ℕ → TextSeen) (r : Unopened) (n m : ℕ) → MayCome (Direct place out) text (Refused (refusal_of r) n m)
-  may_refuse place out text unopened.NoSource n m = tt
-  may_refuse place out text unopened.NoSink n m = tt
-  may_refuse place out text unopened.Memory n m = tt
+  may_refuse : (r : Unopened) (n m : ℕ) → IsOfDirect (Refused (refusal_of r) n m)
+  may_refuse unopened.NoSource n m = tt
+  may_refuse unopened.NoSink n m = tt
+  may_refuse unopened.Memory n m = tt
 
   pub calls_refused : (place out : List ℕ) (r : Unopened) (a b c : Seen) (status : ℕ) → CameToRefusal left faults place out a b r
       → (said : Result (Unit {0}) OutsideFault) × Says b c (unopened_line r) said × (status ≡ max (unopened_code r) (wanted_code said)) → Calls left faults (Direct place out) a c status
   calls_refused place out r a b c status k s =
       let came = Refused (refusal_of r) k.0 k.1 in (
+        OneFile place out,
         came,
         s.0,
         record {
-          may = may_refuse place out a.text r k.0 k.1;
+          may = (refl, may_refuse r k.0 k.1);
           comes = comes_still place out came a b c s.1.rest k.2;
-          says = subst (λ (x : SaidSeen). Said s.0 x c.say (lines_of (direct_parties place out) came)) k.3 (subst (λ t. Said s.0 b.say c.say t) (refused_line place out r) s.1.text_said);
+          says = subst (λ (x : SaidSeen). Said s.0 x c.say (lines_of (OneFile place out) came)) k.3 (subst (λ t. Said s.0 b.say c.say t) (refused_line place out r) s.1.text_said);
           answers = s.2 ∙ ap (λ n. max n (wanted_code s.0)) (refused_code r);
         },
       )
@@ -295,10 +301,11 @@ module _ {S : Type 0} (left : S → Option (List Scripted)) (faults : S → ℕ)
   pub calls_fine : (file : List ℕ) (a b c : Seen) (status : ℕ) → Judges a.text file (Ok tt) → b.text ≡ a.text → KeepsRest a b
       → (said : Result (Unit {0}) OutsideFault) × Says b c fine_text said × (status ≡ said_code said) → Calls left faults (Check file) a c status
   calls_fine file a b c status judged texts keeps s = (
+    Nothing,
     Fine,
     s.0,
     record {
-      may = judged;
+      may = (refl, judged);
       comes = record { texts = texts_still a c (s.1.rest.texts ∙ texts); places = places_still a c (s.1.rest.places ∙ keeps.places); sinks = sinks_still a c (s.1.rest.sinks ∙ keeps.sinks); leaves = tt };
       says = subst (λ (x : SaidSeen). Said s.0 x c.say fine_text) keeps.say s.1.text_said;
       answers = s.2;
@@ -357,10 +364,11 @@ module _ {S : Type 0} (left : S → Option (List Scripted)) (faults : S → ℕ)
   calls_judged file r a b c status judged counts keeps s =
       let places = s.1.rest.places ∙ keeps.places in
       let sinks = s.1.rest.sinks ∙ keeps.sinks in (
+        Nothing,
         Refused (reason_of r) 0 0,
         s.0,
         record {
-          may = judged;
+          may = (refl, judged);
           comes = record {
             texts = texts_counted a b c r counts s.1.rest.texts;
             places = λ p. subst (λ (l : List (List ℕ)). PlaceKept 0 (has p l) (a.place p) (c.place p)) (sym (no_place r)) (places_still a c places p);
@@ -371,15 +379,16 @@ module _ {S : Type 0} (left : S → Option (List Scripted)) (faults : S → ℕ)
               λ p. subst (λ (l : List (List ℕ)). KeepsHeld (has p l) (a.sink p) (c.sink p)) (sym (no_emptied r)) (ap (λ (f : List ℕ → SinkSeen). (f p).held) sinks),
             );
           };
-          says = subst (λ (x : SaidSeen). Said s.0 x c.say (lines_of no_parties (Refused (reason_of r) 0 0))) keeps.say (subst (λ t. Said s.0 b.say c.say t) (judged_line r) s.1.text_said);
+          says = subst (λ (x : SaidSeen). Said s.0 x c.say (lines_of Nothing (Refused (reason_of r) 0 0))) keeps.say (subst (λ t. Said s.0 b.say c.say t) (judged_line r) s.1.text_said);
           answers = s.2 ∙ ap (λ n. max n (wanted_code s.0)) (judged_code r);
         },
       )
 
   -- words that are refused
-  pub calls_words : (command : Command) (a b : Seen) (status : ℕ) → MayCome command a.text BadWords → parties_of command ≡ no_parties
+  pub calls_words : (command : Command) (a b : Seen) (status : ℕ) → MayCome command a.text Nothing BadWords
       → ((said : Result (Unit {0}) OutsideFault) × Says a b usage_text said) → status ≡ 1 → Calls left faults command a b status
-  calls_words command a b status may none s is = (
+  calls_words command a b status may s is = (
+    Nothing,
     BadWords,
     s.0,
     record {

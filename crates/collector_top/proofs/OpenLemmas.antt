@@ -10,8 +10,7 @@ use Rattle.call_spec.specs.declared.end.InputEnd.{InputEnd}
 use Rattle.call_spec.specs.declared.end.InputEnd.TheVariants as end
 use Rattle.call_spec.specs.Names.{times, has, after_openings}
 use Rattle.call_spec.specs.Counts.{MovesBy, TextKept, PlaceKept, SinkKept}
-use Rattle.call_spec.specs.Ends.{TakenFrom, IsNothingLeft, EndsReading, GrowsAs, wants_memory}
-use Rattle.call_spec.specs.Leaves.{Holds, HoldsAs}
+use Rattle.call_spec.specs.Ends.{TakenFrom, IsNothingLeft, EndsReading, GrowsAs, wants_memory, Holds, HoldsAs}
 
 -- names are equal or not
 pub same_or : (p q : List ℕ) → ((bytes_eq p q ≡ true) × (p ≡ q)) ⊎ ((bytes_eq p q ≡ false) × (p ≢ q))

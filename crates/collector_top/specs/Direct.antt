@@ -8,8 +8,11 @@ use Rattle.call_spec.specs.Came.{Refusal, RunCame, Came}
 use Rattle.call_spec.specs.Came.Refusal.{NoSource, NoOutput, NoMemory}
 use Rattle.call_spec.specs.Came.Came.{Refused, Ran}
 use Rattle.call_spec.specs.Leaves.{Comes}
+use Rattle.call_spec.specs.Ends.{source_failed}
 use Rattle.call_spec.specs.Lines.{input_line, sink_line, memory_text}
-use Rattle.call_spec.specs.Call.{in_name, out_name, direct_parties, OutputText}
+use Rattle.call_spec.specs.Plan.{in_name, out_name}
+use Rattle.call_spec.specs.Plan.Plan.{OneFile}
+use Rattle.count_spec.specs.Examples.{nothing_counted}
 use Rattle.file_lines.specs.declared.run.Ended.{Ended}
 use Rattle.collector_top.specs.declared.direct.Unopened.{Unopened}
 use Rattle.collector_top.specs.declared.direct.Unopened.TheVariants as unopened
@@ -29,15 +32,22 @@ unopened_code unopened.NoSource = 3
 unopened_code unopened.NoSink = 4
 unopened_code unopened.Memory = 6
 
--- a run in which the one input gave these events, and the one output ended so
+-- a run in which the one input gave these events, and the one output ended so; no order is told, and nothing is counted
 abbrev pub one_run : List Scripted → List Scripted → Ended → RunCame
-one_run given beyond ended = record { inputs = record { given = given; beyond = beyond; end = ended.input } ∷ []; log = None; outputs = ended.output ∷ [] }
+one_run given beyond ended = record {
+  inputs = record { given = given; beyond = beyond; end = ended.input; failed = source_failed ended.input } ∷ [];
+  order = [];
+  log = None;
+  stages = [];
+  outputs = ended.output ∷ [];
+  counts = nothing_counted;
+}
 
 module _ {S : Type 0} (left : S → Option (List Scripted)) (faults : S → ℕ) where
   -- a run came to this end
   abbrev pub CameToRun : List ℕ → List ℕ → Seen → Seen → Ended → Type 0
-  CameToRun place out old new ended = (given : List Scripted) × (beyond : List Scripted) × Comes left faults OutputText (direct_parties place out) (Ran (one_run given beyond ended)) old new × (new.say ≡ old.say)
+  CameToRun place out old new ended = (given : List Scripted) × (beyond : List Scripted) × Comes left faults (OneFile place out) (Ran (one_run given beyond ended)) old new × (new.say ≡ old.say)
 
   -- a refusal came
   abbrev pub CameToRefusal : List ℕ → List ℕ → Seen → Seen → Unopened → Type 0
-  CameToRefusal place out old new refusal = (n : ℕ) × (m : ℕ) × Comes left faults OutputText (direct_parties place out) (Refused (refusal_of refusal) n m) old new × (new.say ≡ old.say)
+  CameToRefusal place out old new refusal = (n : ℕ) × (m : ℕ) × Comes left faults (OneFile place out) (Refused (refusal_of refusal) n m) old new × (new.say ≡ old.say)

@@ -1,4 +1,3 @@
-pub mod Says
 pub mod Direct
 pub mod Words
 pub mod Check

@@ -4,12 +4,12 @@ ghost use Rattle.site_io.specs.declared.outside.OutsideFault.{OutsideFault};
 ghost use Rattle.words_spec.specs.Commands.{command_of};
 ghost use Rattle.call_spec.specs.Call.{Calls};
 ghost use Rattle.call_spec.specs.Lines.{usage_text};
-ghost use Rattle.collector_top.specs.Says.{Says};
+ghost use Rattle.run_lines.specs.Says.{Says};
 
 use crate::check::check_run;
 use crate::direct::direct_run;
-use crate::say::{Piece, say_piece};
 use crate::words::{Command, command_of};
+use run_lines::{Piece, say_piece};
 use site_io::Site;
 use std::alloc::Global;
 

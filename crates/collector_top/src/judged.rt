@@ -5,14 +5,15 @@ ghost use Rattle.config_spec.specs.First.{fault_text};
 ghost use Rattle.element_spec.specs.Faults as elements;
 ghost use Rattle.call_spec.specs.Lines.{named_line, elements_head, fine_text, description_start};
 ghost use Rattle.call_spec.specs.Status.{said_code, wanted_code};
-ghost use Rattle.collector_top.specs.Says.{Says};
+ghost use Rattle.run_lines.specs.Says.{Says};
 ghost use Rattle.collector_top.specs.Check.{refusal_line, refusal_code};
 
-use crate::report::{said_code, wanted_code};
-use crate::say::{Piece, elements_head, named_line, say, say_named, say_piece};
 use crate::verdict::Refusal;
 use col_base::{Octets, Text};
 use element_table::{self, TableFault};
+use run_lines::{
+    Piece, elements_head, named_line, said_code, say, say_named, say_piece, wanted_code,
+};
 use site_io::{OutsideFault, Site};
 use startup_config::{ConfFault, fault_text};
 use std::alloc::{AllocError, Global};

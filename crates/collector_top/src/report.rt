@@ -3,19 +3,22 @@ ghost use Rattle.std.specs.Prelude.{◌≡◌, ◌++◌, Result, max};
 ghost use Rattle.site_io.specs.declared.outside.OutsideFault.{OutsideFault};
 ghost use Rattle.call_spec.specs.Lines.{input_line, sink_line};
 ghost use Rattle.call_spec.specs.Status.{end_code, fault_code, said_code, wanted_code};
-ghost use Rattle.call_spec.specs.Call.{in_name, out_name};
-ghost use Rattle.collector_top.specs.Says.{Says};
+ghost use Rattle.call_spec.specs.Plan.{in_name, out_name};
+ghost use Rattle.run_lines.specs.Says.{Says};
 ghost use Rattle.collector_top.specs.Direct.{unopened_line, unopened_code};
 
 use crate::direct::Unopened;
-use crate::say::{Piece, say_named, say_piece};
 use call_spec::InputEnd;
 use file_lines::Ended;
+use run_lines::{
+    Piece, end_code, fault_code, said_code, say_input as say_input_named, say_piece, say_sink,
+    wanted_code,
+};
 use site_io::{OutsideFault, Site};
 use std::alloc::Global;
 
 /// The name of the input in lines.
-#[tactic(auto, unfolding(call_spec::specs::Call::in_name))]
+#[tactic(auto, unfolding(call_spec::specs::Plan::in_name))]
 fn in_name() -> &'static [u8]
     ensures { result.now ≡ in_name }
 {
@@ -23,27 +26,21 @@ fn in_name() -> &'static [u8]
 }
 
 /// The name of the output in lines.
-#[tactic(auto, unfolding(call_spec::specs::Call::out_name))]
+#[tactic(auto, unfolding(call_spec::specs::Plan::out_name))]
 fn out_name() -> &'static [u8]
     ensures { result.now ≡ out_name }
 {
     b"out"
 }
 
-/// Says the line of an input that ended so, if it has one.
+/// Says the line of the input, if it has one.
 fn say_input<S: Site>(alloc: Global, end: InputEnd, site: &mut S) -> Result<(), OutsideFault>
     ensures { Says (S.seen site.old) (S.seen site.new) (input_line in_name end) result }
 {
-    match end {
-        InputEnd::End => Ok(()),
-        InputEnd::Failed => say_named(alloc, Piece::Source, in_name(), site),
-        InputEnd::Limit => say_named(alloc, Piece::Limit, in_name(), site),
-        InputEnd::Memory => say_named(alloc, Piece::Wanting, in_name(), site),
-        InputEnd::NotBuilt => say_piece(Piece::NotBuilt, site),
-    }
+    say_input_named(alloc, in_name(), end, site)
 }
 
-/// Says the line of an output that ended so, if it has one.
+/// Says the line of the output, if it has one.
 fn say_output<S: Site>(
     alloc: Global,
     fault: Option<OutsideFault>,
@@ -51,11 +48,7 @@ fn say_output<S: Site>(
 ) -> Result<(), OutsideFault>
     ensures { Says (S.seen site.old) (S.seen site.new) (sink_line out_name fault) result }
 {
-    match fault {
-        None => Ok(()),
-        Some(OutsideFault::Failed) => say_named(alloc, Piece::Sink, out_name(), site),
-        Some(OutsideFault::NoMemory) => say_named(alloc, Piece::Wanting, out_name(), site),
-    }
+    say_sink(alloc, out_name(), fault, site)
 }
 
 /// Says the lines of a run: that of the input, and then that of the output.
@@ -76,49 +69,6 @@ fn say_unopened<S: Site>(alloc: Global, refusal: Unopened, site: &mut S) -> Resu
         Unopened::NoSource => say_input(alloc, InputEnd::Failed, site),
         Unopened::NoSink => say_output(alloc, Some(OutsideFault::Failed), site),
         Unopened::Memory => say_piece(Piece::Memory, site),
-    }
-}
-
-fn end_code(end: InputEnd) -> u8
-    ensures { result ≡ end_code end }
-{
-    match end {
-        InputEnd::End => 0,
-        InputEnd::Failed => 3,
-        InputEnd::Limit => 5,
-        InputEnd::Memory => 6,
-        InputEnd::NotBuilt => 2,
-    }
-}
-
-fn fault_code(fault: Option<OutsideFault>) -> u8
-    ensures { result ≡ fault_code fault }
-{
-    match fault {
-        None => 0,
-        Some(OutsideFault::Failed) => 4,
-        Some(OutsideFault::NoMemory) => 6,
-    }
-}
-
-/// What saying the lines of a run gives to its status.
-pub fn said_code(said: Result<(), OutsideFault>) -> u8
-    ensures { result ≡ said_code said }
-{
-    match said {
-        Ok(()) => 0,
-        Err(OutsideFault::Failed) => 4,
-        Err(OutsideFault::NoMemory) => 6,
-    }
-}
-
-/// What saying the line of a call without a run gives to its status: a fault changes none that was set before.
-pub fn wanted_code(said: Result<(), OutsideFault>) -> u8
-    ensures { result ≡ wanted_code said }
-{
-    match said {
-        Ok(()) | Err(OutsideFault::Failed) => 0,
-        Err(OutsideFault::NoMemory) => 6,
     }
 }
 

@@ -1,6 +1,6 @@
-use Rattle.call_spec.specs.Call.{in_name, out_name}
+use Rattle.call_spec.specs.Plan.{in_name, out_name}
 use Rattle.call_spec.specs.Lines.{input_line, sink_line}
-use Rattle.collector_top.proofs.SayLemmas.{says_then, says_stop}
+use Rattle.run_lines.proofs.SayLemmas.{says_then, says_stop}
 use Rattle.collector_top.proofs.report.say_run.Goals as goal
 
 pub returns-in-Ok : goal.returns-in-Ok

@@ -2,9 +2,9 @@
 use Rattle.std.specs.Prelude.{ℕ, ◌≡◌, List, Result}
 use Rattle.site_io.specs.declared.outside.OutsideFault.{OutsideFault}
 use Rattle.site_io.specs.Seen.{Seen, ChangesSay}
-use Rattle.call_spec.specs.Lines.{Said, usage_text, fine_text, not_built_text, memory_text, source_start, sink_start, limit_start, memory_start, description_start, elements_start, colon, line_end}
-use Rattle.collector_top.specs.declared.say.Piece.{Piece}
-use Rattle.collector_top.specs.declared.say.Piece.TheVariants as piece
+use Rattle.call_spec.specs.Lines.{Said, usage_text, fine_text, not_built_text, memory_text, source_start, sink_start, limit_start, memory_start, description_start, elements_start, colon, log_name, line_end}
+use Rattle.run_lines.specs.declared.saying.Piece.{Piece}
+use Rattle.run_lines.specs.declared.saying.Piece.TheVariants as piece
 
 abbrev pub piece_text : Piece → List ℕ
 piece_text piece.Usage = usage_text
@@ -18,6 +18,7 @@ piece_text piece.Wanting = memory_start
 piece_text piece.Description = description_start
 piece_text piece.Elements = elements_start
 piece_text piece.Colon = colon
+piece_text piece.Log = log_name
 piece_text piece.End = line_end
 
 -- a text was said, and nothing else changed

@@ -10,7 +10,7 @@ use Rattle.site_io.specs.Writes.{Grows, Writes}
 use Rattle.call_spec.specs.Counts.{MovesBy}
 use Rattle.call_spec.specs.Ends.{GrowsByFront}
 use Rattle.call_spec.specs.Lines.{Said}
-use Rattle.collector_top.specs.Says.{Says}
+use Rattle.run_lines.specs.Says.{Says}
 
 grows_none : (old : Option (List ℕ)) → Grows old old []
 grows_none None = tt

@@ -2,7 +2,8 @@
 ghost use Rattle.std.specs.Prelude.{◌≡◌, ◌++◌, Result, IfOk};
 ghost use Rattle.site_io.specs.declared.outside.OutsideFault.{OutsideFault};
 ghost use Rattle.call_spec.specs.Lines.{named_line, elements_head};
-ghost use Rattle.collector_top.specs.Says.{Says, piece_text};
+ghost use Rattle.call_spec.specs.Summary.{row_end};
+ghost use Rattle.run_lines.specs.Says.{Says, piece_text};
 
 use col_base::Octets;
 use site_io::{OutsideFault, Site};
@@ -22,12 +23,13 @@ pub enum Piece {
     Description,
     Elements,
     Colon,
+    Log,
     End,
 }
 
 impl Piece {
     /// The octets of the piece.
-    #[tactic(auto, unfolding(call_spec::specs::Lines::usage_text, call_spec::specs::Lines::fine_text, call_spec::specs::Lines::not_built_text, call_spec::specs::Lines::memory_text, call_spec::specs::Lines::source_start, call_spec::specs::Lines::sink_start, call_spec::specs::Lines::limit_start, call_spec::specs::Lines::memory_start, call_spec::specs::Lines::description_start, call_spec::specs::Lines::elements_start, call_spec::specs::Lines::colon, call_spec::specs::Lines::line_end))]
+    #[tactic(auto, unfolding(call_spec::specs::Lines::usage_text, call_spec::specs::Lines::fine_text, call_spec::specs::Lines::not_built_text, call_spec::specs::Lines::memory_text, call_spec::specs::Lines::source_start, call_spec::specs::Lines::sink_start, call_spec::specs::Lines::limit_start, call_spec::specs::Lines::memory_start, call_spec::specs::Lines::description_start, call_spec::specs::Lines::elements_start, call_spec::specs::Lines::colon, call_spec::specs::Lines::log_name, call_spec::specs::Lines::line_end))]
     pub fn octets(self) -> &'static [u8]
         ensures { result.now ≡ piece_text self }
     {
@@ -44,9 +46,18 @@ impl Piece {
             Piece::Description => b"description: ",
             Piece::Elements => b"elements ",
             Piece::Colon => b": ",
+            Piece::Log => b"order-log",
             Piece::End => b"\n",
         }
     }
+}
+
+/// The end of a row of the summary.
+#[tactic(auto, unfolding(call_spec::specs::Summary::row_end))]
+pub fn row_end() -> &'static [u8]
+    ensures { result.now ≡ row_end }
+{
+    b"\n"
 }
 
 /// Says octets, in one call.

@@ -1,0 +1,3 @@
+mod CauseLemmas
+mod KnownTexts
+mod LogLemmas

@@ -1,0 +1,4 @@
+mod OutLemmas
+mod OpenLemmas
+mod PlaceLemmas
+mod SinkLemmas

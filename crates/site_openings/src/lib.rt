@@ -1,0 +1,14 @@
+//! Opens the sources of all inputs, and the sinks of the order log and the outputs, in order, and gives them back.
+//!
+//! Where one can't be opened, those before it are given back, and the answer says which it was. Contracts count by name:
+//! how often a place or a sink name was opened, and whether something of it failed; so two inputs may share a place. What
+//! goes out stands in the order of its names. The run of a description stands above.
+#![tactic(auto)]
+
+mod places;
+mod sinks;
+mod stopped;
+
+pub use places::{back_sources, open_sources};
+pub use sinks::{back_sinks, open_sinks};
+pub use stopped::Stopped;
