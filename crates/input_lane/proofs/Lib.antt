@@ -6,3 +6,4 @@ mod IdleLemmas
 mod EventLemmas
 mod BringLemmas
 mod StandLemmas
+mod MarkLemmas

@@ -27,7 +27,7 @@ use Rattle.input_lane.specs.declared.came.InletAnswer.TheVariants as answer
 use Rattle.input_lane.specs.Kept.{Keeps}
 use Rattle.input_lane.specs.Hands.{IsGot, closes_of, handed_by, left_by, meant, meant_by}
 use Rattle.input_lane.specs.Tallies.{Counted, no_counts}
-use Rattle.input_lane.specs.Inlets.{Takes, Finishes, IsReading, IsOver, IsTaken, IsKind, kind_of, IsWithin, IsNoLook, EndsAs, StillBy, GaveBy, Stands, StandsBy, Answers, is_end}
+use Rattle.input_lane.specs.Inlets.{Takes, Finishes, IsReading, IsOver, IsTaken, IsKind, kind_of, IsWithin, IsNoLook, EndsAs, StillBy, GaveBy, Stands, StandsBy, GoesOn, GoesOnBy, Answers, is_end}
 use Rattle.site_io.specs.Outside.{one_more as count_more}
 use Rattle.session_table.specs.Table.{Table, ClosesNext}
 use Rattle.session_table.specs.declared.arrival.Arrival.TheVariants as given
@@ -75,17 +75,23 @@ module _ (settings : Settings) (input : ℕ) (taken : List Scripted) (out : List
         counts = subst (λ (m : List Mark). Counted m no_counts y.state.tally) (sym all) (counted_then marks last no_counts x.state.tally y.state.tally k.counts done.counts);
       }
 
-  pub answers_handed : (x : Lane) (c : Came) → Stands settings input taken (out ++ meant_by c ∷ []) x → Answers settings input taken out x (handed_by c)
+  pub answers_handed : (x : Lane) (c : Came) → GoesOn settings input taken (out ++ meant_by c ∷ []) x → Answers settings input taken out x (handed_by c)
   answers_handed x (came.SessionOpen key transport) h = h
   answers_handed x (came.Raw key octets) h = h
   answers_handed x (came.SessionClose key) h = h
   answers_handed x (came.Periodic n seconds) h = h
 
-  pub over_stands : (x : Lane) (how : Reading) → is_end how ≡ true → x.reading ≡ how → IsOver settings input taken out x → Stands settings input taken out x
-  over_stands x reading.Open e is h = absurd cc
-  over_stands x reading.Ended e is h = subst (λ (r : Reading). StandsBy r settings input taken out x) (sym is) h
-  over_stands x reading.Failed e is h = subst (λ (r : Reading). StandsBy r settings input taken out x) (sym is) h
-  over_stands x reading.Wanting e is h = absurd cc
+  pub over_goes_on : (x : Lane) (how : Reading) → is_end how ≡ true → x.reading ≡ how → IsOver settings input taken out x → GoesOn settings input taken out x
+  over_goes_on x reading.Open e is h = absurd cc
+  over_goes_on x reading.Ended e is h = subst (λ (r : Reading). GoesOnBy r settings input taken out x) (sym is) h
+  over_goes_on x reading.Failed e is h = subst (λ (r : Reading). GoesOnBy r settings input taken out x) (sym is) h
+  over_goes_on x reading.Wanting e is h = absurd cc
+
+  pub goes_on_stands : (x : Lane) (how : Reading) → GoesOnBy how settings input taken out x → StandsBy how settings input taken out x
+  goes_on_stands x reading.Open h = h
+  goes_on_stands x reading.Ended h = h
+  goes_on_stands x reading.Failed h = h
+  goes_on_stands x reading.Wanting h = tt
 
   pub is_over : (x : Lane) (how : Reading) → is_end how ≡ true → x.reading ≡ how → Stands settings input taken out x → IsOver settings input taken out x
   is_over x reading.Open e is h = absurd cc
@@ -126,7 +132,7 @@ module _ (settings : Settings) (input : ℕ) (taken : List Scripted) (out : List
   over_handed x y c a e is front sessions tally h said =
       let over = is_over settings input taken out x x.reading e refl h in
       subst (λ (a : InletAnswer). Answers settings input taken out y a) (sym said)
-      (answers_handed settings input taken out y c (over_stands settings input taken (out ++ meant_by c ∷ []) y x.reading e is (record {
+      (answers_handed settings input taken out y c (over_goes_on settings input taken (out ++ meant_by c ∷ []) y x.reading e is (record {
         whole = append_assoc out (meant_by c ∷ []) (left_by y.state.hand.items y.state.sessions)
             ∙ (ap (λ (o : Table). out ++ (meant_by c ∷ (meant y.state.hand.items ++ closes_of o))) sessions ∙ (ap (λ l. out ++ left_by l x.state.sessions) (sym front) ∙ over.whole));
         counts = subst (λ (n : Tally). Counted (marks_of settings input taken) no_counts n) (sym tally) over.counts;
@@ -137,7 +143,7 @@ module _ (settings : Settings) (input : ℕ) (taken : List Scripted) (out : List
       → Stands settings input taken out x → Answers settings input taken out y (answer.Got (given.SessionClose key))
   over_closes x y key e is none still w tally h =
       let over = is_over settings input taken out x x.reading e refl h in
-      over_stands settings input taken (out ++ SessionClose key ∷ []) y x.reading e is (record {
+      over_goes_on settings input taken (out ++ SessionClose key ∷ []) y x.reading e is (record {
         whole = ap (λ l. (out ++ SessionClose key ∷ []) ++ left_by l y.state.sessions) still
             ∙ (append_assoc out (SessionClose key ∷ []) (closes_of y.state.sessions)
             ∙ (ap (λ l. out ++ map SessionClose l) (sym w.0) ∙ (ap (λ l. out ++ left_by l x.state.sessions) (sym none) ∙ over.whole)));
@@ -175,7 +181,7 @@ module _ (settings : Settings) (input : ℕ) (taken : List Scripted) (out : List
       → Keeps settings input (standing_after settings input taken) y.state → y.state.tally ≡ x.state.tally → y.stop_after ≡ x.stop_after → y.taken ≡ x.taken → a ≡ handed_by c → Answers settings input taken out y a
   still_handed x y c a r front is keeps tally conf number said =
       subst (λ (a : InletAnswer). Answers settings input taken out y a) (sym said)
-      (answers_handed settings input taken out y c (subst (λ (r : Reading). StandsBy r settings input taken (out ++ meant_by c ∷ []) y) (sym is) (record {
+      (answers_handed settings input taken out y c (subst (λ (r : Reading). GoesOnBy r settings input taken (out ++ meant_by c ∷ []) y) (sym is) (record {
         told = r.told ∙ sym conf;
         keeps = keeps;
         whole = handed_whole out (arrivals_in (run_of settings input taken).marks) c x.state.hand.items y.state.hand.items front r.whole;

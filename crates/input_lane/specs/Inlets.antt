@@ -64,6 +64,16 @@ StandsBy reading.Wanting settings input taken out x = ⊤
 abbrev pub Stands : Settings → ℕ → List Scripted → List (Arrival (List ℕ)) → Lane → Type 0
 Stands settings input taken out x = StandsBy x.reading settings input taken out x
 
+abbrev pub GoesOnBy : Reading → Settings → ℕ → List Scripted → List (Arrival (List ℕ)) → Lane → Type 0
+GoesOnBy reading.Open settings input taken out x = IsReading settings input taken out x
+GoesOnBy reading.Ended settings input taken out x = IsOver settings input taken out x
+GoesOnBy reading.Failed settings input taken out x = IsOver settings input taken out x
+GoesOnBy reading.Wanting settings input taken out x = ⊥
+
+-- the same, and memory was not wanted
+abbrev pub GoesOn : Settings → ℕ → List Scripted → List (Arrival (List ℕ)) → Lane → Type 0
+GoesOn settings input taken out x = GoesOnBy x.reading settings input taken out x
+
 abbrev pub is_end : Reading → Bool
 is_end reading.Open = false
 is_end reading.Ended = true
@@ -72,10 +82,10 @@ is_end reading.Wanting = false
 
 -- what a call answers, where with it the source gave these answers, and these arrivals had been given on
 abbrev pub Answers : Settings → ℕ → List Scripted → List (Arrival (List ℕ)) → Lane → InletAnswer → Type 0
-Answers settings input taken out x (answer.Got (given.SessionOpen key transport)) = Stands settings input taken (out ++ SessionOpen key transport ∷ []) x
-Answers settings input taken out x (answer.Got (given.Raw key octets)) = Stands settings input taken (out ++ Raw key (arc_value octets) ∷ []) x
-Answers settings input taken out x (answer.Got (given.SessionClose key)) = Stands settings input taken (out ++ SessionClose key ∷ []) x
-Answers settings input taken out x (answer.Got (given.Periodic n seconds)) = Stands settings input taken (out ++ Periodic n seconds ∷ []) x
+Answers settings input taken out x (answer.Got (given.SessionOpen key transport)) = GoesOn settings input taken (out ++ SessionOpen key transport ∷ []) x
+Answers settings input taken out x (answer.Got (given.Raw key octets)) = GoesOn settings input taken (out ++ Raw key (arc_value octets) ∷ []) x
+Answers settings input taken out x (answer.Got (given.SessionClose key)) = GoesOn settings input taken (out ++ SessionClose key ∷ []) x
+Answers settings input taken out x (answer.Got (given.Periodic n seconds)) = GoesOn settings input taken (out ++ Periodic n seconds ∷ []) x
 Answers settings input taken out x (answer.Got given.End) = IsOver settings input taken out x × (out ≡ arrivals_of settings input taken) × (is_end x.reading ≡ true)
 Answers settings input taken out x answer.Nothing = IsReading settings input taken out x × (out ≡ arrivals_in (run_of settings input taken).marks) × (x.reading ≡ reading.Open)
 Answers settings input taken out x answer.NotYet = IsReading settings input taken out x × (out ≡ arrivals_in (run_of settings input taken).marks) × (x.reading ≡ reading.Open)

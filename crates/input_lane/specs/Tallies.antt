@@ -4,6 +4,8 @@ use Rattle.arrival_spec.specs.Arrival.{Arrival}
 use Rattle.arrival_spec.specs.Arrival.Arrival.{SessionOpen, Raw, SessionClose, Periodic}
 use Rattle.arrival_spec.specs.Mark.{Mark, is_stray, is_refused, is_torn, is_broken}
 use Rattle.arrival_spec.specs.Mark.Mark.{Arrives, Stray, Refused, Torn, Broken}
+use Rattle.count_spec.specs.Counts as counted
+use Rattle.count_spec.specs.Shown.{shown_number}
 use Rattle.pipeline_message.specs.declared.run_counts.RunCounts.{RunCounts}
 use Rattle.input_lane.specs.declared.tally.Tally.{Tally}
 
@@ -54,3 +56,11 @@ pub record Counted (marks : List Mark) (old new : Tally) : Type 0 where
   pub broken : new.broken ≡ adds old.broken (count_by is_broken marks)
   pub refused : new.refused ≡ adds old.refused (count_by is_refused marks)
   pub stray : new.stray ≡ adds old.stray (count_by is_stray marks)
+
+-- the counts are those that a run has of some marks
+pub record CountsMarks (marks : List Mark) (t : Tally) : Type 0 where
+  pub sessions : t.sessions ≡ shown_number (counted.sessions marks)
+  pub torn : t.torn ≡ shown_number (counted.torn marks)
+  pub broken : t.broken ≡ shown_number (counted.broken marks)
+  pub refused : t.refused ≡ shown_number (counted.refused marks)
+  pub stray : t.stray ≡ shown_number (counted.stray marks)

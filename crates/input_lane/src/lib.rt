@@ -14,6 +14,7 @@ mod events;
 mod hand;
 mod inlet;
 mod lane;
+mod law;
 mod links;
 mod state;
 mod stream;
@@ -21,3 +22,4 @@ mod tally;
 
 pub use came::InletAnswer;
 pub use inlet::Inlet;
+pub use law::an_input_counts_its_events;
