@@ -2,3 +2,4 @@ mod OutLemmas
 mod OpenLemmas
 mod PlaceLemmas
 mod SinkLemmas
+mod AllLemmas

@@ -1,5 +1,5 @@
 -- Walks over names that open and give back.
-use Rattle.std.proofs.Common.{◌≡◌, ◌≢◌, inl, inr, ℕ, zero, suc, ◌+◌, ◌≤◌, ◌<◌, Bool, true, false, cond, List, [], ◌∷◌, ◌++◌, length, take, drop, get_or, Option, refl, ap, sym, subst, ◌∙◌, arith, append_assoc, append-nil, add-zero}
+use Rattle.std.proofs.Common.{◌≡◌, ◌≢◌, inl, inr, ℕ, zero, suc, ◌+◌, ◌≤◌, ◌<◌, true, false, cond, List, [], ◌∷◌, ◌++◌, length, take, drop, get_or, Option, refl, ap, sym, subst, ◌∙◌, arith, append_assoc, append-nil, add-zero}
 use Rattle.std.specs.Prelude.{bytes_eq, ◌||◌}
 use Rattle.std.proofs.lemmas.List.{drop_more, take_more, length_push, drop_all, length-take-le}
 use Rattle.call_spec.specs.Names.{times, has}
@@ -11,10 +11,10 @@ use Rattle.site_openings.proofs.OutLemmas.{none_back, back_more, refused_counts}
 pub one_name : (p name : List ℕ) → has p (name ∷ []) ≡ cond (bytes_eq p name) true false
 one_name p name = elim (bytes_eq p name) as (λ b. (b || false) ≡ cond b true false) [ true ↦ refl | false ↦ refl ]
 
-no_mark : (p name : List ℕ) → cond (bytes_eq p name) false false ≡ false
+pub no_mark : (p name : List ℕ) → cond (bytes_eq p name) false false ≡ false
 no_mark p name = elim (bytes_eq p name) as (λ b. cond b false false ≡ false) [ true ↦ refl | false ↦ refl ]
 
-no_count : (p name : List ℕ) → ◌≡◌ {A = ℕ} (cond (bytes_eq p name) 0 0) 0
+pub no_count : (p name : List ℕ) → ◌≡◌ {A = ℕ} (cond (bytes_eq p name) 0 0) 0
 no_count p name = elim (bytes_eq p name) as (λ b. ◌≡◌ {A = ℕ} (cond b 0 0) 0) [ true ↦ refl | false ↦ refl ]
 
 -- one name of a list

@@ -1,13 +1,12 @@
 -- Things go out and come back.
-use Rattle.std.proofs.Common.{◌≡◌, ◌≢◌, inl, inr, ℕ, zero, suc, ◌+◌, ◌≤◌, ◌<◌, Bool, true, false, cond, List, [], ◌∷◌, ◌++◌, length, Option, Some, None, refl, ap, sym, subst, ◌∙◌, arith, min, max, ◌-◌, ◌^◌}
+use Rattle.std.proofs.Common.{◌≡◌, ◌≢◌, inl, inr, ℕ, zero, suc, ◌+◌, ◌≤◌, ◌<◌, Bool, true, false, cond, List, [], ◌∷◌, ◌++◌, length, Option, Some, refl, ap, sym, subst, ◌∙◌, arith}
 use Rattle.std.specs.Prelude.{bytes_eq, ◌||◌, nat_lt, IsSome}
 use Rattle.std.proofs.lemmas.Bool.Decides.{nat_tests}
 use Rattle.site_io.specs.Outside.{Rose, one_more}
-use Rattle.call_spec.specs.Pairs.{Each}
-use Rattle.call_spec.specs.Names.{times, has, marked, after_openings}
+use Rattle.call_spec.specs.Names.{times, has, after_openings}
 use Rattle.call_spec.specs.Counts.{MovesBy}
 use Rattle.call_spec.proofs.PairLemmas.{more, weaker, renumber, both as pairs_both}
-use Rattle.call_spec.proofs.NameLemmas.{zero_or, same_or, one_if, times_more, unmarked, members, partner, none_after, one_after, more_after}
+use Rattle.call_spec.proofs.NameLemmas.{same_or, one_if, times_more, unmarked, members, partner, none_after, one_after, more_after}
 use Rattle.site_openings.specs.Out.{WentOut, CameBack, Kept, GoesOut, ComesBack, Begins, AllOut, Shows, failing, AllBack}
 
 pub is_told : {X : Type 0} (o : Option X) (x : X) → o ≡ Some x → IsSome o

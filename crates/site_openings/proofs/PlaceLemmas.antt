@@ -1,15 +1,15 @@
 -- Sources go out and come back.
-use Rattle.std.proofs.Common.{◌≡◌, ◌≢◌, inl, inr, ℕ, ◌+◌, ◌≤◌, ◌<◌, Bool, true, false, List, [], ◌∷◌, ◌++◌, length, take, get_or, Option, Some, None, refl, ap, sym, subst, ◌∙◌, arith}
+use Rattle.std.proofs.Common.{◌≡◌, inl, inr, ℕ, ◌+◌, ◌≤◌, ◌<◌, Bool, true, false, List, [], ◌∷◌, ◌++◌, length, take, get_or, Option, Some, None, refl, ap, sym, subst, ◌∙◌, arith}
 use Rattle.std.specs.Prelude.{IfSome, IsSome, Ok, Err}
 use Rattle.arrival_spec.specs.declared.event.Scripted.{Scripted}
 use Rattle.site_io.specs.Seen.{Seen, PlaceSeen, SourceGoesOut, SourceComesBack, ChangesPlace}
-use Rattle.call_spec.specs.Names.{times, has}
+use Rattle.call_spec.specs.Names.{times}
 use Rattle.call_spec.specs.Counts.{PlaceKept}
 use Rattle.call_spec.specs.Leaves.{KeepsLeft}
 use Rattle.call_spec.proofs.NameLemmas.{zero_or, same_or}
 use Rattle.site_openings.specs.declared.stopped.Stopped.{Stopped}
 use Rattle.site_openings.specs.declared.stopped.Stopped.TheVariants.{At, Memory}
-use Rattle.site_openings.specs.Out.{Kept, GoesOut, ComesBack, AllOut, AllBack}
+use Rattle.site_openings.specs.Out.{Kept, GoesOut, ComesBack}
 use Rattle.site_openings.specs.Places.{place_left, place_faults, place_openings, place_out, all_left, ChangesPlaces, SourcesOut, SourcesBack, OpensSource, SourcesStopped}
 use Rattle.site_openings.proofs.OutLemmas.{none_out, out_more, shows_start, others_same}
 use Rattle.site_openings.proofs.OpenLemmas.{BackSoFar, taken_next, number_is, still_out, counts_at, counts_memory}
@@ -21,7 +21,7 @@ told_some (Some y) x P e h = let same : y ≡ x = cc in subst P same h
 kept_of : (n : ℕ) (f : Bool) (x y : PlaceSeen) → PlaceKept n f x y → Kept place_faults place_openings place_out n f x y
 kept_of n f x y k = record { out_now = k.out; openings_now = k.openings; faults_now = k.faults; same = k.same }
 
-of_kept : (n : ℕ) (f : Bool) (x y : PlaceSeen) → Kept place_faults place_openings place_out n f x y → PlaceKept n f x y
+pub of_kept : (n : ℕ) (f : Bool) (x y : PlaceSeen) → Kept place_faults place_openings place_out n f x y → PlaceKept n f x y
 of_kept n f x y k = record { out = k.out_now; openings = k.openings_now; faults = k.faults_now; same = k.same }
 
 module _ {S : Type 0} (left : S → Option (List Scripted)) (faults : S → ℕ) where

@@ -1,15 +1,14 @@
 -- Sinks go out and come back.
-use Rattle.std.proofs.Common.{◌≡◌, ◌≢◌, ◌⊎◌, inl, inr, ℕ, zero, suc, ◌+◌, ◌≤◌, ◌<◌, Bool, true, false, cond, List, [], ◌∷◌, ◌++◌, length, take, get_or, Option, Some, None, refl, ap, sym, subst, ◌∙◌, arith, add-zero}
+use Rattle.std.proofs.Common.{◌≡◌, inl, inr, ℕ, zero, suc, ◌+◌, ◌≤◌, ◌<◌, Bool, true, false, cond, List, [], ◌∷◌, ◌++◌, length, take, get_or, Option, Some, None, refl, ap, sym, subst, ◌∙◌, arith, add-zero}
 use Rattle.std.specs.Prelude.{IfSome, IsSome, nat_lt, Ok, Err}
-use Rattle.std.proofs.lemmas.Bool.Decides.{nat_tests}
 use Rattle.site_io.specs.Seen.{Seen, SinkSeen, SinkGoesOut, SinkComesBack, ChangesSink}
 use Rattle.call_spec.specs.Names.{times, has}
 use Rattle.call_spec.specs.Counts.{SinkKept}
 use Rattle.call_spec.specs.Leaves.{KeepsHeld}
-use Rattle.call_spec.proofs.NameLemmas.{zero_or, same_or, itself, one_if, times_more, times_take, has_some, has_none}
+use Rattle.call_spec.proofs.NameLemmas.{zero_or, same_or, itself, one_if, times_more, times_take, has_some}
 use Rattle.site_openings.specs.declared.stopped.Stopped.{Stopped}
 use Rattle.site_openings.specs.declared.stopped.Stopped.TheVariants.{At, Memory}
-use Rattle.site_openings.specs.Out.{AreDistinct, Kept, GoesOut, ComesBack, AllOut, AllBack}
+use Rattle.site_openings.specs.Out.{AreDistinct, Kept, GoesOut, ComesBack}
 use Rattle.site_openings.specs.Sinks.{sink_held, sink_faults, sink_openings, sink_out, nothing_held, ChangesSinks, SinksOut, SinksBack, OpensSink, SinksStopped}
 use Rattle.site_openings.proofs.OutLemmas.{is_told, none_out, out_more, shows_start, others_same}
 use Rattle.site_openings.proofs.OpenLemmas.{BackSoFar, taken_next, number_is, still_out, counts_at, counts_memory}

@@ -1,3 +1,4 @@
 pub mod Out
 pub mod Places
 pub mod Sinks
+pub mod All

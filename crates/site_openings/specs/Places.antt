@@ -1,5 +1,5 @@
 -- Places whose sources went out, and came back.
-use Rattle.std.specs.Prelude.{ℕ, ◌≡◌, ◌+◌, ◌≤◌, ◌<◌, Bool, true, false, List, [], ◌∷◌, ◌++◌, Result, Ok, Err, Option, Some, IsSome, map, drop, length, take}
+use Rattle.std.specs.Prelude.{ℕ, ◌≡◌, ◌+◌, ◌≤◌, ◌<◌, true, false, List, [], ◌∷◌, ◌++◌, Result, Ok, Err, Option, IsSome, map, drop, length, take}
 use Rattle.arrival_spec.specs.declared.event.Scripted.{Scripted}
 use Rattle.config_spec.specs.declared.conf.InputConf.{InputConf}
 use Rattle.site_io.specs.Seen.{Seen, PlaceSeen, SourceGoesOut}

@@ -1,5 +1,5 @@
 -- Sink names whose sinks went out, and came back.
-use Rattle.std.specs.Prelude.{ℕ, ◌≡◌, ◌≤◌, ◌<◌, nat_lt, Bool, true, false, List, [], ◌∷◌, ◌++◌, Result, Ok, Err, Option, length, take}
+use Rattle.std.specs.Prelude.{ℕ, ◌≡◌, ◌≤◌, nat_lt, true, false, List, [], ◌∷◌, ◌++◌, Result, Ok, Err, Option, length, take}
 use Rattle.site_io.specs.Seen.{Seen, SinkSeen, SinkGoesOut}
 use Rattle.call_spec.specs.Names.{times, has}
 use Rattle.call_spec.specs.Counts.{SinkKept}

@@ -1,4 +1,4 @@
-use Rattle.std.proofs.Common.{◌≡◌, ◌≤◌, ℕ, [], List, ap, sym, subst, ◌∙◌, length, arith}
+use Rattle.std.proofs.Common.{◌≤◌, ℕ, [], List, ap, sym, subst, ◌∙◌, length, arith}
 use Rattle.std.proofs.lemmas.List.{take_all, take-map, length-map, length-take-le, get_or-map}
 use Rattle.call_spec.specs.Names.{times}
 use Rattle.config_spec.specs.declared.conf.InputConf.{InputConf}

@@ -1,5 +1,5 @@
-use Rattle.std.proofs.Common.{◌≡◌, ℕ, length, get_or, [], List, arith, ap, refl, subst, sym, ◌∙◌}
-use Rattle.std.proofs.lemmas.List.{nil_from_length, length-map, get_or-map}
+use Rattle.std.proofs.Common.{◌≡◌, ℕ, length, get_or, [], List, arith, refl, subst}
+use Rattle.std.proofs.lemmas.List.{nil_from_length}
 use Rattle.site_openings.specs.Sinks.{sink_held, sink_faults, sink_openings, sink_out}
 use Rattle.site_openings.proofs.OpenLemmas.{back_none, back_next, back_all, next_is_out}
 use Rattle.site_openings.proofs.SinkLemmas.{SinksBackSoFar, comes, rest_more}

@@ -1,6 +1,5 @@
-use Rattle.std.proofs.Common.{◌≡◌, ◌≤◌, ℕ, [], List, ap, sym, subst, ◌∙◌, length, arith}
-use Rattle.std.proofs.lemmas.List.{take_all, take-map, length-map, length-take-le, get_or-map}
-use Rattle.call_spec.specs.Names.{times}
+use Rattle.std.proofs.Common.{ℕ, [], List, ap, sym, subst, ◌∙◌, length, arith}
+use Rattle.std.proofs.lemmas.List.{take_all, length-take-le}
 use Rattle.site_openings.specs.Sinks.{SinksOut}
 use Rattle.site_openings.proofs.SinkLemmas.{none_sinks, open_ok, same_sinks, sinks_long, sinks_out, stopped_sinks}
 use Rattle.site_openings.proofs.sinks.open_sinks.Goals as goal
