@@ -4,6 +4,7 @@
 mod limited;
 mod opening;
 mod real_site;
+mod real_source;
 mod standard_streams;
 #[cfg(test)]
 mod test_folder;

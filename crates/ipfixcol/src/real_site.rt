@@ -1,23 +1,26 @@
-// The files of the system as a Site.
+// The files and the sockets of the system as a Site.
 ghost use Rattle.std.specs.Prelude.{◌≡◌, ◌≤◌, ℕ, List, IfOk, length};
 ghost use Rattle.site_io.specs.Tally.{nothing, tally_at};
 ghost use Rattle.ipfixcol.specs.UsedFiles.{AddsText};
 
 use crate::limited::read_limited;
 use crate::opening;
+use crate::real_source::{self, RealSource};
 use crate::used_files::{self, UsedFiles};
-use col_base::{Octets, Transport};
+use col_base::Octets;
 use site_io::tally::{self, Tallies};
-use site_io::{InputSpec, OutsideFault, ReadSource, Site, WriteSink, count_up, write_piece};
+use site_io::{InputSpec, OutsideFault, Site, WriteSink, count_up, write_piece};
 use std::alloc::Global;
 use std::io;
+use std::net::Net;
 use std::rt::Files;
+use std::time::Clock;
 
-/// Texts and sources are files that are read, sinks are files that are emptied and appended to, and what is said goes
-/// to standard output. It tells no contents, and counts exactly. What is out can't be opened a second time, and a
-/// regular file that is in use is no sink.
+/// Texts are files that are read, sources are files too, or sockets, sinks are files that are emptied and appended to,
+/// and what is said goes to standard output. It tells no contents, and counts exactly. What is out can't be opened a
+/// second time, two kinds of source at one place are one in this, and a regular file that is in use is no sink.
 #[derive(Drop)]
-pub struct RealSite<'a, R: Files + Print> {
+pub struct RealSite<'a, R: Files + Print + Net + Clock> {
     rt: &'a R,
     alloc: Global,
     texts: Tallies,
@@ -27,7 +30,7 @@ pub struct RealSite<'a, R: Files + Print> {
     say_faults: u64,
 }
 
-impl<'a, R: Files + Print> RealSite<'a, R> {
+impl<'a, R: Files + Print + Net + Clock> RealSite<'a, R> {
     /// The Site of a runtime, with nothing counted. It takes no memory.
     pub fn new(rt: &'a R, alloc: Global) -> Self
         ensures texts { (name : List ℕ) → tally_at result.texts name ≡ nothing }
@@ -60,18 +63,19 @@ fn read_text<R: Files>(
     read_limited(alloc, opening::open_text(rt, used, name)?)
 }
 
-impl<R: Files + Print> Site for RealSite<'_, R>
+impl<'a, R: Files + Print + Net + Clock + Sync> Site for RealSite<'a, R>
 where
     R::File: Send,
 {
-    type Src = ReadSource<R::File>;
+    type Src = RealSource<R::File, &'a R>;
 
     type Out = WriteSink<R::File>;
 
     ghost use Rattle.std.specs.Prelude.{◌<◌, None, false, OnOk, OnErr};
     ghost use Rattle.site_io.specs.Seen.{ChangesText, ChangesPlace, ChangesSink, ReadsText, OpensSource, OpensSink, SourceComesBack, SinkComesBack};
     ghost use Rattle.ipfixcol.specs.RealSite.{real_seen, untold_text, untold_place, untold_sink};
-    ghost use Rattle.ipfixcol.specs.UsedFiles.{AddsSource, AddsSink, SameFiles, ReturnsSource, ReturnsSink};
+    ghost use Rattle.ipfixcol.specs.RealSource.{faults_of, IsOfTransport, OpensFiles};
+    ghost use Rattle.ipfixcol.specs.UsedFiles.{AddsSink, SameFiles, ReturnsSource, ReturnsSink};
 
     ghost seen = { λ site. real_seen site.texts site.places site.sinks site.say_faults };
 
@@ -96,32 +100,33 @@ where
         answer
     }
 
-    /// Failed is a transport other than files, a place whose source is out, and a file that can't be opened.
-    fn open_source(&mut self, spec: &InputSpec) -> Result<ReadSource<R::File>, OutsideFault>
+    /// Failed is a place whose source is out, a file that can't be opened, a text that is no address with a port, and
+    /// an address that can't be had.
+    fn open_source(&mut self, spec: &InputSpec) -> Result<RealSource<R::File, &'a R>, OutsideFault>
         // what each Site does
-        ensures opened { OpensSource (λ _. None) (λ source. source.faults)
+        ensures opened { OpensSource (λ _. None) (λ source. faults_of source)
             (untold_place (tally_at self.old.places spec.now.place)) (untold_place (tally_at self.new.places spec.now.place)) result }
         ensures others { ChangesPlace spec.now.place (real_seen self.old.texts self.old.places self.old.sinks self.old.say_faults)
             (real_seen self.new.texts self.new.places self.new.sinks self.new.say_faults) }
 
         // what is opened
-        ensures file { IfOk result (λ _. spec.now.transport ≡ Transport.File) }
+        ensures kind { IfOk result (λ source. IsOfTransport spec.now.transport source) }
         ensures was_in { IfOk result (λ _. (tally_at self.old.places spec.now.place).out ≡ false) }
 
         // which files are in use
-        ensures used { OnOk result (AddsSource spec.now.place self.old.used self.new.used) }
+        ensures used { OnOk result (OpensFiles spec.now.transport spec.now.place self.old.used self.new.used) }
         ensures unused { OnErr result (SameFiles self.old.used self.new.used) }
     {
         let place = spec.place.as_str();
         tally::add(self.alloc, &mut self.places, place)?;
-        if spec.transport != Transport::File || tally::is_out(&self.places, place) {
+        if tally::is_out(&self.places, place) {
             tally::refused(&mut self.places, place);
             return Err(OutsideFault::Failed);
         }
-        match opening::open_source(self.rt, self.alloc, &mut self.used, place) {
-            Ok(file) => {
+        match real_source::open(self.rt, self.alloc, &mut self.used, spec) {
+            Ok(source) => {
                 tally::went_out(&mut self.places, place);
-                Ok(ReadSource::new(file))
+                Ok(source)
             }
             Err(OutsideFault::Failed) => {
                 tally::refused(&mut self.places, place);
@@ -131,12 +136,12 @@ where
         }
     }
 
-    fn back_source(&mut self, spec: &InputSpec, source: ReadSource<R::File>)
+    fn back_source(&mut self, spec: &InputSpec, source: RealSource<R::File, &'a R>)
         requires { 0 < ((real_seen self.old.texts self.old.places self.old.sinks self.old.say_faults).place spec.now.place).out }
 
         // what each Site does
         ensures back { SourceComesBack (untold_place (tally_at self.old.places spec.now.place)) (untold_place (tally_at self.new.places spec.now.place))
-            None source.faults }
+            None (faults_of source.entry) }
         ensures others { ChangesPlace spec.now.place (real_seen self.old.texts self.old.places self.old.sinks self.old.say_faults)
             (real_seen self.new.texts self.new.places self.new.sinks self.new.say_faults) }
 

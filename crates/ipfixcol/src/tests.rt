@@ -1,13 +1,14 @@
-// Runs over the files of the system: what is read, what is written, and what fails.
+// Runs over the files of the system: what is read, what is written, and what fails; and which sockets are refused.
 use crate::real_site::RealSite;
 use crate::test_folder::Folder;
 use col_base::{Text, Transport};
 use collector_top::collect_main;
 use sample_messages::ONE_FLOW;
-use site_io::{InputSpec, Sink, Site};
+use site_io::{InputSpec, OutsideFault, Sink, Site};
 use std::alloc::{AllocError, Global};
 use std::fs::{self, OpenOptions};
 use std::io::{Read, Write, pipe};
+use std::net::UdpSocket;
 use std::os::fd::AsRawFd;
 use std::os::unix::fs::symlink;
 use std::test::Fail;
@@ -144,11 +145,11 @@ fn one_file_is_not_both_read_and_written(rt: HostRuntime) -> Result<(), Fail> {
     Ok(())
 }
 
-/// A file as an input.
-fn input_of(alloc: Global, place: &str) -> Result<InputSpec, AllocError> {
+/// An input of that kind at a place.
+fn input_of(alloc: Global, transport: Transport, place: &str) -> Result<InputSpec, AllocError> {
     Ok(InputSpec {
         name: Text::from_str(alloc, "in")?,
-        transport: Transport::File,
+        transport,
         place: Text::from_str(alloc, place)?,
     })
 }
@@ -181,7 +182,7 @@ fn a_file_that_is_read_is_no_sink(rt: HostRuntime) -> Result<(), Fail> {
     assert!(rt; site.text(text.as_str()).is_ok());
     assert!(rt; site.open_sink(symbolic.as_str()).is_err());
     assert!(rt; fs::read(&rt, &text)?.as_slice() == "a text".as_bytes());
-    let spec = input_of(alloc, file.as_str())?;
+    let spec = input_of(alloc, Transport::File, file.as_str())?;
     assert_eq!(rt; opens_beside(&mut site, &spec, hard.as_str()), Some(false));
     assert!(rt; fs::read(&rt, &file)?.as_slice() == "what is read".as_bytes());
     assert!(rt; site.open_sink(hard.as_str()).is_ok());
@@ -248,5 +249,25 @@ fn a_sink_that_is_no_regular_file_is_not_emptied(rt: HostRuntime) -> Result<(), 
     assert_eq!(rt; reader.read(&mut room)?, 7);
     assert!(rt; &room[..7] == b"through".as_slice());
     site.back_sink(path.as_str(), sink);
+    Ok(())
+}
+
+#[test]
+fn what_is_no_address_and_what_is_taken_is_refused(rt: HostRuntime) -> Result<(), Fail> {
+    let alloc = rt.alloc();
+    let mut site = RealSite::new(&rt, alloc);
+    let other = UdpSocket::bind(&rt, "127.0.0.1:0")?;
+    let taken = format!(in alloc; "{}", other.local_addr()?)?;
+    for (transport, place) in [
+        (Transport::Udp, taken.as_str()),
+        (Transport::Udp, "localhost:4739"),
+        (Transport::Tcp, "127.0.0.1"),
+    ] {
+        let input = input_of(alloc, transport, place)?;
+        assert!(rt;
+            matches!(site.open_source(&input), Err(OutsideFault::Failed)),
+            "{place}"
+        );
+    }
     Ok(())
 }
