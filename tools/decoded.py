@@ -21,12 +21,24 @@ def number(octets):
     return int.from_bytes(octets, "big")
 
 
-def messages_of(stream):
-    """The whole messages of a stream, up to what is torn or broken."""
-    while len(stream) >= 4 and number(stream[:2]) == 10 and 16 <= number(stream[2:4]) <= len(stream):
+def is_bad(rest):
+    """No message can begin so."""
+    return len(rest) >= 4 and (number(rest[:2]) != 10 or number(rest[2:4]) < 16)
+
+
+def cut(stream):
+    """The whole messages of a stream, and the rest, which is torn or bad if it isn't empty."""
+    messages = []
+    while len(stream) >= 4 and not is_bad(stream) and number(stream[2:4]) <= len(stream):
         length = number(stream[2:4])
-        yield stream[:length]
+        messages.append(stream[:length])
         stream = stream[length:]
+    return messages, stream
+
+
+def messages_of(stream):
+    """The whole messages of a stream, up to what is torn or bad."""
+    return cut(stream)[0]
 
 
 def sets_of(message):

@@ -1,16 +1,40 @@
-// A case: a script and what its call is to leave.
+// A case: a script, and what its call is to leave or its inputs are to give.
+use crate::arrivals::arrivals_text;
 use crate::fault::Fault;
+use crate::given::Given;
 use crate::played::play;
 use crate::script::Script;
 use crate::wanted::Wanted;
-use std::alloc::Global;
+use std::alloc::{AllocError, Global};
 
-/// A script with a name, and what its call is to leave.
+/// A script with a name, and what its call is to leave, or what the inputs of its description are to give.
 #[derive(Drop)]
 pub struct Case {
     name: String,
     pub script: Script,
     wanted: Vec<Wanted>,
+    pub given: Given,
+}
+
+/// What was found of a case.
+#[derive(Drop)]
+struct Report {
+    name: String,
+    text: String,
+}
+
+impl Report {
+    /// Tells what is otherwise, if something is.
+    fn tell(&mut self, difference: Option<String>) -> Result<(), AllocError> {
+        let Some(difference) = difference else {
+            return Ok(());
+        };
+        self.text.push_str("case ")?;
+        self.text.push_str(self.name.as_str())?;
+        self.text.push_str(": ")?;
+        self.text.push_str(difference.as_str())?;
+        self.text.push_str("\n")
+    }
 }
 
 impl Case {
@@ -19,6 +43,7 @@ impl Case {
             name: String::from_str(alloc, name)?,
             script: Script::new(alloc),
             wanted: Vec::new(alloc),
+            given: Given::new(alloc),
         })
     }
 
@@ -28,27 +53,31 @@ impl Case {
         Ok(())
     }
 
-    /// Makes the call, and answers a line for each thing that it left otherwise. A case that wants nothing is wrong.
+    /// Makes the call, or asks the inputs, and answers a line for each thing that came otherwise. A case wants what the one
+    /// leaves, or what the others give.
     pub fn differences(self, alloc: Global) -> Result<String, Fault> {
         let Case {
             name,
             script,
             wanted,
+            given,
         } = self;
-        if wanted.is_empty() {
-            return Err(Fault::Wrong("the case before wants nothing"));
-        }
-        let played = play(alloc, script)?;
-        let mut text = String::new(alloc);
-        for each in wanted.as_slice() {
-            if let Some(difference) = each.differs(alloc, &played)? {
-                text.push_str("case ")?;
-                text.push_str(name.as_str())?;
-                text.push_str(": ")?;
-                text.push_str(difference.as_str())?;
-                text.push_str("\n")?;
+        let text = String::new(alloc);
+        let mut report = Report { name, text };
+        match (wanted.is_empty(), given.is_empty()) {
+            (true, true) => return Err(Fault::Wrong("the case before wants nothing")),
+            (false, false) => return Err(Fault::Wrong("the case before wants both kinds")),
+            (true, false) => {
+                let found = arrivals_text(alloc, script)?;
+                report.tell(given.differs(alloc, found.as_str())?)?;
+            }
+            (false, true) => {
+                let played = play(alloc, script)?;
+                for each in wanted.as_slice() {
+                    report.tell(each.differs(alloc, &played)?)?;
+                }
             }
         }
-        Ok(text)
+        Ok(report.text)
     }
 }

@@ -1,6 +1,7 @@
 // A file of cases.
 use crate::block::{Block, with_octets};
 use crate::case::Case;
+use crate::each::Each;
 use crate::fault::Fault;
 use crate::part::parts_of;
 use crate::pieces::Pieces;
@@ -14,6 +15,8 @@ pub struct CaseFile {
     pieces: Pieces,
     /// The lines of octets that are being read.
     block: Option<Block>,
+    /// The lines that stand for many, and are being read.
+    each: Option<Each>,
     /// The case that is being read.
     case: Option<Case>,
     cases: u64,
@@ -26,6 +29,7 @@ impl CaseFile {
         CaseFile {
             pieces: Pieces::new(alloc),
             block: None,
+            each: None,
             case: None,
             cases: 0,
             failed: 0,
@@ -59,18 +63,32 @@ impl CaseFile {
             }
         }
         self.end_block(alloc)?;
-        match Block::begun(alloc, line)? {
-            Some(block) => {
-                self.block = Some(block);
-                Ok(())
+        if let Some(each) = &mut self.each {
+            if each.takes(alloc, line)? {
+                return Ok(());
             }
-            None => self.take_plain(alloc, line),
         }
+        self.end_each(alloc)?;
+        self.begin(alloc, line)
+    }
+
+    /// Takes a line that belongs to none before it.
+    fn begin(&mut self, alloc: Global, line: &str) -> Result<(), Fault> {
+        if let Some(block) = Block::begun(alloc, line)? {
+            self.block = Some(block);
+            return Ok(());
+        }
+        if let Some(each) = Each::begun(alloc, line)? {
+            self.each = Some(each);
+            return Ok(());
+        }
+        self.take_plain(alloc, line)
     }
 
     /// Plays the last case.
     pub fn end(&mut self, alloc: Global) -> Result<(), Fault> {
         self.end_block(alloc)?;
+        self.end_each(alloc)?;
         self.end_case(alloc)
     }
 
@@ -84,6 +102,16 @@ impl CaseFile {
         }
     }
 
+    fn end_each(&mut self, alloc: Global) -> Result<(), Fault> {
+        let Some(each) = mem::replace(&mut self.each, None) else {
+            return Ok(());
+        };
+        for line in each.ended(alloc)? {
+            self.take_plain(alloc, line.as_str())?;
+        }
+        Ok(())
+    }
+
     fn end_case(&mut self, alloc: Global) -> Result<(), Fault> {
         let Some(case) = mem::replace(&mut self.case, None) else {
             return Ok(());
@@ -95,6 +123,14 @@ impl CaseFile {
             self.told.push_str(differences.as_str())?;
         }
         Ok(())
+    }
+
+    /// The case that is being read.
+    fn case(&mut self) -> Result<&mut Case, Fault> {
+        match &mut self.case {
+            Some(case) => Ok(case),
+            None => Err(Fault::Wrong("a case or a piece is wanted")),
+        }
     }
 
     /// Takes a line whose octets stand in it, as hexadecimal digits or by the names of pieces.
@@ -116,14 +152,18 @@ impl CaseFile {
             self.case = Some(Case::new(alloc, name)?);
             return Ok(());
         }
+        if let Some(line) = line.strip_prefix("gives ") {
+            return self.case()?.given.push(alloc, line);
+        }
+        if let Some(line) = line.strip_prefix("has ") {
+            return self.case()?.given.push_some(alloc, line);
+        }
         let parts = parts_of(alloc, line)?;
         if let ["piece", name, given] = parts.as_slice() {
             let octets = crate::part::octets(alloc, given)?;
             return self.pieces.push(alloc, name, octets);
         }
-        let Some(case) = &mut self.case else {
-            return Err(Fault::Wrong("a case or a piece is wanted"));
-        };
+        let case = self.case()?;
         if let Some(wanted) = wanted_of(alloc, parts.as_slice())? {
             return case.want(wanted);
         }

@@ -31,11 +31,11 @@ impl fmt::Display for Fault {
     }
 }
 
-/// A fault and the line that has it.
+/// A fault, and the line that has it, if it is of one line.
 #[derive(Debug, Drop)]
 pub struct LineFault {
     /// The number of the line, from 1.
-    line: usize,
+    line: Option<usize>,
     fault: Fault,
 }
 
@@ -43,24 +43,30 @@ impl LineFault {
     /// The fault of the line at a place, from 0.
     pub fn new(place: usize, fault: Fault) -> Self {
         LineFault {
-            line: place.saturating_add(1),
+            line: Some(place.saturating_add(1)),
             fault,
         }
     }
 }
 
+impl From<Fault> for LineFault {
+    fn from(fault: Fault) -> Self {
+        LineFault { line: None, fault }
+    }
+}
+
 impl From<AllocError> for LineFault {
     fn from(_: AllocError) -> Self {
-        LineFault {
-            line: 0,
-            fault: Fault::NoMemory,
-        }
+        LineFault::from(Fault::NoMemory)
     }
 }
 
 impl fmt::Display for LineFault {
     fn fmt<W: fmt::Write>(&self, f: &mut fmt::Formatter<W>) -> fmt::Result {
         let LineFault { line, fault } = self;
-        write!(f, "line {line}: {fault}")
+        match line {
+            Some(line) => write!(f, "line {line}: {fault}"),
+            None => write!(f, "{fault}"),
+        }
     }
 }

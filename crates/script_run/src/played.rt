@@ -1,6 +1,6 @@
 // What a script's call left.
 use crate::part::hexadecimal;
-use crate::planned::{PlannedSink, sink_rows, source_rows};
+use crate::planned::PlannedSink;
 use crate::script::Script;
 use col_base::Text;
 use collector_top::collect_main;
@@ -25,17 +25,8 @@ fn names_of(alloc: Global, sinks: &[PlannedSink]) -> Result<Vec<Text>, AllocErro
 
 /// Makes the script's call.
 pub fn play(alloc: Global, script: Script) -> Result<Played, AllocError> {
-    let Script {
-        words,
-        texts,
-        sources,
-        sinks,
-        say_fails,
-    } = script;
-    let names = names_of(alloc, sinks.as_slice())?;
-    let sources = source_rows(alloc, sources)?;
-    let sinks = sink_rows(alloc, sinks, say_fails)?;
-    let mut site = MemorySite::new(alloc, texts, sources, sinks);
+    let names = names_of(alloc, script.sinks.as_slice())?;
+    let (words, mut site) = script.into_call(alloc)?;
     let status = collect_main(alloc, &words, &mut site);
     Ok(Played {
         status,

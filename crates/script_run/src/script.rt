@@ -1,11 +1,11 @@
 // A script.
 use crate::event::event_of;
-use crate::fault::Fault;
+use crate::fault::{Fault, LineFault};
 use crate::part::{calls, failing_writes, octets, parts_of};
-use crate::planned::{PlannedSink, PlannedSource};
+use crate::planned::{PlannedSink, PlannedSource, sink_rows, source_rows};
 use col_base::Text;
-use site_io::{NamedText, SinkFail};
-use std::alloc::Global;
+use site_io::{MemorySite, NamedText, SinkFail};
+use std::alloc::{AllocError, Global};
 
 /// The words of a call, and the outside that it finds.
 #[derive(Drop)]
@@ -27,6 +27,31 @@ impl Script {
             sinks: Vec::new(alloc),
             say_fails: Vec::new(alloc),
         }
+    }
+
+    /// The script of a text.
+    pub fn read(alloc: Global, text: &str) -> Result<Self, LineFault> {
+        let mut script = Script::new(alloc);
+        for (place, line) in text.lines().enumerate() {
+            script
+                .take_line(alloc, line)
+                .map_err(|fault| LineFault::new(place, fault))?;
+        }
+        Ok(script)
+    }
+
+    /// The words of the call, and a Site in memory with what it finds.
+    pub fn into_call(self, alloc: Global) -> Result<(Vec<String>, MemorySite), AllocError> {
+        let Script {
+            words,
+            texts,
+            sources,
+            sinks,
+            say_fails,
+        } = self;
+        let sources = source_rows(alloc, sources)?;
+        let sinks = sink_rows(alloc, sinks, say_fails)?;
+        Ok((words, MemorySite::new(alloc, texts, sources, sinks)))
     }
 
     /// Takes the next line.
