@@ -1,2 +1,5 @@
+mod CauseLemmas
+mod KnownTexts
+mod LogLemmas
 pub mod PairLemmas
 pub mod NameLemmas

@@ -6,10 +6,20 @@
 //! (`Calls`). Lists of inputs and of outputs are walked pairwise by one word, `Each`, and counts are said by name: how
 //! often a name was opened, and whether something of it failed. So two inputs may share a place.
 //!
-//! It has definitions alone, with the plain type that they share with the code; laws of lists side by side stand in its
-//! proofs.
+//! It has definitions alone, with the plain type that they share with the code, and what they mean: which faults can give a
+//! status, and how examples of runs end, each as the contract of an empty function. Laws of lists side by side stand in
+//! its proofs.
 #![tactic(auto)]
 
+mod cause;
 mod end;
+mod example;
 
+pub use cause::a_status_has_its_cause;
 pub use end::InputEnd;
+pub use example::{
+    a_log_has_an_entry_for_each_arrival, an_input_ends_with_nothing_left,
+    descriptions_with_one_output_of_text_are_built, faults_have_their_lines_in_order,
+    no_text_is_written_before_its_entry, summaries_have_seventeen_lines,
+    the_greatest_status_is_answered,
+};

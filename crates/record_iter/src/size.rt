@@ -52,7 +52,9 @@ pub fn behind(octets: &[u8], count: usize) -> &[u8]
     &octets[count..]
 }
 
-/// The octets of the record that begins here. None exactly where it is cut.
+/// The octets of the record that begins here. None exactly where it is cut. Out of line, since a caller's loop over records
+/// of fixed length loses registers to it otherwise.
+#[inline(never)]
 pub fn record_size(fields: &[FieldSpec], octets: &[u8]) -> Option<usize>
     ensures { result ≡ record_size fields.now octets.now }
 {

@@ -24,6 +24,22 @@ came_to end failed = record { given = []; beyond = []; end = end; failed = faile
 abbrev pub run_with : List InputCame → Option OutsideFault → List Bool → List (Option OutsideFault) → RunCame
 run_with inputs log stages outputs = record { inputs = inputs; order = []; log = log; stages = stages; outputs = outputs; counts = nothing_counted }
 
--- one session, message and record
-abbrev pub one_of_each : Counts
-one_of_each = record nothing_counted { sessions = 1; messages = 1; records = 1 }
+-- counts no two of which are the same
+abbrev pub one_to_fifteen : Counts
+one_to_fifteen = record nothing_counted {
+  sessions = 1;
+  messages = 2;
+  records = 3;
+  malformed = 4;
+  late = 5;
+  skipped = 6;
+  ignored = 7;
+  redefined = 8;
+  lost = 9;
+  disordered = 10;
+  torn = 11;
+  broken = 12;
+  refused = 13;
+  crowded = 14;
+  stray = 15;
+}

@@ -1,3 +1,0 @@
-mod CauseLemmas
-mod KnownTexts
-mod LogLemmas

@@ -1,5 +1,0 @@
-use Rattle.call_laws.proofs.LogLemmas.{nothing_left}
-use Rattle.call_laws.proofs.example.an_input_ends_with_nothing_left.Goals as goal
-
-pub returns : goal.returns
-returns c = nothing_left
