@@ -12,3 +12,4 @@ pub mod Status
 pub mod Texts
 pub mod Leaves
 pub mod Call
+pub mod Examples
