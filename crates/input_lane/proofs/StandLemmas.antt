@@ -27,7 +27,7 @@ use Rattle.input_lane.specs.declared.came.InletAnswer.TheVariants as answer
 use Rattle.input_lane.specs.Kept.{Keeps}
 use Rattle.input_lane.specs.Hands.{IsGot, closes_of, handed_by, left_by, meant, meant_by}
 use Rattle.input_lane.specs.Tallies.{Counted, no_counts}
-use Rattle.input_lane.specs.Inlets.{Takes, Finishes, IsReading, IsOver, IsTaken, IsKind, kind_of, IsWithin, IsNoLook, EndsAs, StillBy, GaveBy, Stands, StandsBy, GoesOn, GoesOnBy, Answers, is_end}
+use Rattle.input_lane.specs.Inlets.{Takes, Finishes, IsReading, IsOver, IsTaken, IsKind, kind_of, IsWithin, IsFull, StandsBehind, IsNoLook, EndsAs, StillBy, GaveBy, Stands, StandsBy, GoesOn, GoesOnBy, Answers, is_end}
 use Rattle.site_io.specs.Outside.{one_more as count_more}
 use Rattle.session_table.specs.Table.{Table, ClosesNext}
 use Rattle.session_table.specs.declared.arrival.Arrival.TheVariants as given
@@ -274,3 +274,19 @@ look_whole settings input taken out e = e ∙ ap (λ (n : Run). arrivals_in n.ma
 
 pub room_whole : (n : ℕ) (new old : List ℕ) → length new ≡ length old → n ≡ length old → take n (new ++ drop (length new) old) ≡ new
 room_whole n new old e f = ap (λ l. take n (new ++ l)) (drop_all (length new) old (omega arith)) ∙ (ap (take n) (append-nil new) ∙ take_all n new (omega arith))
+
+-- with one event more as many were taken as may be
+pub full_more : (settings : Settings) (e : Scripted) (taken : List Scripted) (n m stop : ℕ) → is_event e ≡ true → settings.stop_after ≡ stop → stop < 2 ^ 64
+    → (settings.stop_after ≡ 0) ⊎ ((length (events_of taken) ≡ n) × (n < settings.stop_after)) → m ≡ count_more n → (0 < stop) × (stop ≤ m) → IsFull settings (taken ++ e ∷ [])
+full_more settings e taken n m stop is same limit (inl z) more reached = absurd (omega arith)
+full_more settings e taken n m stop is same limit (inr h) more reached = let k = event_more taken e is in (omega arith, omega arith)
+
+-- reading that goes on, or that memory was wanted for
+pub stands_behind : (settings : Settings) (taken : List Scripted) (now how : Reading) → now ≡ how → StandsBehind how settings taken → StandsBehind now settings taken
+stands_behind settings taken now how e s = subst (λ (r : Reading). StandsBehind r settings taken) (sym e) s
+
+pub ends_how : (how new : Reading) (a : InletAnswer) → EndsAs how new a → new ≡ how
+ends_how how new (answer.Got a) e = e
+ends_how how new answer.NoMemory e = absurd e
+ends_how how new answer.Nothing e = absurd e
+ends_how how new answer.NotYet e = absurd e

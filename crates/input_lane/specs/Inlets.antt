@@ -108,10 +108,10 @@ StillBy old new answer.NotYet = ⊥
 StillBy old new (answer.Got a) = new ≡ old
 StillBy old new answer.NoMemory = (new ≡ old) × (old ≡ reading.Wanting)
 
--- reading ended in this way, and an arrival or the end comes; or memory was wanted
+-- reading ended in this way, and an arrival or the end comes
 abbrev pub EndsAs : Reading → Reading → InletAnswer → Type 0
 EndsAs how new (answer.Got a) = new ≡ how
-EndsAs how new answer.NoMemory = ⊤
+EndsAs how new answer.NoMemory = ⊥
 EndsAs how new answer.Nothing = ⊥
 EndsAs how new answer.NotYet = ⊥
 
@@ -164,11 +164,26 @@ pub record IsTaken (settings : Settings) (input : ℕ) (taken : List Scripted) (
   pub counts : Counted (run_of settings input taken).marks no_counts x.state.tally
   pub within : IsWithin settings taken
 
+-- as many events were taken as may be
+abbrev pub IsFull : Settings → List Scripted → Type 0
+IsFull settings taken = (0 < settings.stop_after) × (length (events_of taken) ≡ settings.stop_after)
+
+-- how reading stands behind an event: it goes on, or it has ended since as many were taken as may be, or memory was wanted
+abbrev pub StandsBehind : Reading → Settings → List Scripted → Type 0
+StandsBehind reading.Open settings taken = ⊤
+StandsBehind reading.Ended settings taken = IsFull settings taken
+StandsBehind reading.Failed settings taken = ⊥
+StandsBehind reading.Wanting settings taken = ⊤
+
 abbrev pub Ends : Lane → Lane → InletAnswer → Type 0
 Ends old new a = (settings : Settings) (input : ℕ) (taken : List Scripted) (out : List (Arrival (List ℕ))) → IsTaken settings input taken out old → Answers settings input taken out new a
 
 abbrev pub Took : Scripted → Lane → Lane → InletAnswer → Type 0
 Took e old new a = (settings : Settings) (input : ℕ) (taken : List Scripted) (out : List (Arrival (List ℕ))) → IsReading settings input taken out old → Answers settings input (taken ++ e ∷ []) out new a
+
+-- reading that ends with an event ends since as many were taken as may be, whatever came before
+abbrev pub StopsBy : Scripted → Lane → Lane → Type 0
+StopsBy e old new = (settings : Settings) (input : ℕ) (taken : List Scripted) (out : List (Arrival (List ℕ))) → IsReading settings input taken out old → StandsBehind new.reading settings (taken ++ e ∷ [])
 
 -- what became of the source in a call
 pub data Asked : Type 0 where
@@ -200,3 +215,11 @@ Causes (Gave e) old new a = (old ≡ reading.Open) × GaveBy e a
 Causes AtEnd old new a = (old ≡ reading.Open) × EndsAs reading.Ended new a
 Causes Failing old new a = (old ≡ reading.Open) × EndsAs reading.Failed new a
 Causes Wanted old new a = (old ≡ reading.Open) × (a ≡ answer.NoMemory)
+
+-- reading that an event ends has taken as many as may be
+abbrev pub Stops : Asked → Lane → Lane → Type 0
+Stops NotAsked old new = ⊤
+Stops (Gave e) old new = (settings : Settings) (input : ℕ) (taken : List Scripted) (out : List (Arrival (List ℕ))) → Stands settings input taken out old → StandsBehind new.reading settings (taken ++ e ∷ [])
+Stops AtEnd old new = ⊤
+Stops Failing old new = ⊤
+Stops Wanted old new = ⊤

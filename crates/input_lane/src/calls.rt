@@ -3,7 +3,7 @@ ghost use Rattle.std.specs.Prelude.{◌≡◌, ◌≤◌, [], length, ℕ, List,
 ghost use Rattle.arrival_spec.specs.declared.event.Scripted.{Scripted};
 ghost use Rattle.arrival_spec.specs.Settings.{Settings};
 ghost use Rattle.arrival_spec.specs.Arrival.{Arrival};
-ghost use Rattle.input_lane.specs.Inlets.{Answers, Asked, Asks, Causes, Stands, and_given, fault_of};
+ghost use Rattle.input_lane.specs.Inlets.{Answers, Asked, Asks, Causes, Stands, Stops, and_given, fault_of};
 ghost use Rattle.input_lane.specs.Kept.{settings_of};
 ghost use Rattle.input_lane.specs.Tallies.{counts_of};
 ghost use Rattle.input_lane.specs.declared.state.Reading.TheVariants as reading;
@@ -111,7 +111,7 @@ impl<S: Source> Inlet<S> {
 
     /// The next arrival. While reading goes on, the source is asked once where nothing waits of the events before.
     pub fn next(&mut self) -> InletAnswer
-        ensures { (asked : Asked) × Asks S.left S.faults asked self.old.source self.new.source × Causes asked self.old.lane.reading self.new.lane.reading result
+        ensures { (asked : Asked) × Asks S.left S.faults asked self.old.source self.new.source × Causes asked self.old.lane.reading self.new.lane.reading result × Stops asked self.old.lane self.new.lane
             × ((settings : Settings) (input : ℕ) (taken : List Scripted) (out : List (Arrival (List ℕ))) → Stands settings input taken out self.old.lane
             → Answers settings input (and_given asked taken) out self.new.lane result) }
     {

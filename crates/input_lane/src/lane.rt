@@ -4,7 +4,7 @@ ghost use Rattle.arrival_spec.specs.declared.event.Scripted.{Scripted};
 ghost use Rattle.arrival_spec.specs.Events.{is_event};
 ghost use Rattle.site_io.specs.Events.{event_in, HasLength};
 ghost use Rattle.input_lane.specs.Hands.{IsGot};
-ghost use Rattle.input_lane.specs.Inlets.{AnswersFrom, Ends, EndsAs, HandsOut, IsNoLook, Took, is_end, kind_of};
+ghost use Rattle.input_lane.specs.Inlets.{AnswersFrom, Ends, EndsAs, HandsOut, IsNoLook, StopsBy, Took, is_end, kind_of};
 ghost use Rattle.input_lane.specs.declared.state.Reading.TheVariants as reading;
 
 use crate::came::InletAnswer;
@@ -83,7 +83,7 @@ impl Lane {
 
     /// Whether as many events were taken as may be.
     fn has_reached(&self) -> bool
-        ensures { MatchBool result ⊤ ((self.now.stop_after ≡ 0) ⊎ (self.now.taken < self.now.stop_after)) }
+        ensures { MatchBool result ((0 < self.now.stop_after) × (self.now.stop_after ≤ self.now.taken)) ((self.now.stop_after ≡ 0) ⊎ (self.now.taken < self.now.stop_after)) }
     {
         self.stop_after != 0 && self.taken >= self.stop_after
     }
@@ -95,6 +95,7 @@ impl Lane {
         requires reading { self.old.reading ≡ reading.Open }
         ensures look { IsNoLook result }
         ensures took { (e : Scripted) → event_in room.now event ≡ Some e → is_event e ≡ true → Took e self.old self.new result }
+        ensures stops { (e : Scripted) → is_event e ≡ true → StopsBy e self.old self.new }
     {
         let _limit = self.stop_after;
         match self.state.take(event, room) {

@@ -1,11 +1,12 @@
-use Rattle.std.proofs.Common.{◌≡◌, ◌∙◌, refl, sym, subst, ap, rules}
+use Rattle.std.proofs.Common.{◌≡◌, ◌∙◌, ◌++◌, ◌∷◌, [], refl, sym, subst, ap, rules}
 use Rattle.std.specs.Prelude.{Option}
 use Rattle.arrival_spec.specs.declared.event.Scripted.{Scripted}
 use Rattle.arrival_spec.specs.declared.event.Scripted.TheVariants as scripted
 use Rattle.site_io.specs.Events.{TakesFirst, event_in}
 use Rattle.input_lane.specs.Inlets.{IsKind}
 use Rattle.input_lane.specs.Inlets.Asked.{Gave}
-use Rattle.input_lane.proofs.StandLemmas.{gave_by, kind_is, look_reading, look_whole, room_whole}
+use Rattle.input_lane.proofs.StandLemmas.{gave_by, kind_is, look_reading, look_whole, room_whole, stands_behind}
+use Rattle.input_lane.specs.declared.state.Reading.TheVariants as reading
 use Rattle.input_lane.proofs.inlet.Inlet.next.Goals as goal
 
 pub returns-in-Look : goal.returns-in-Look
@@ -14,6 +15,7 @@ returns-in-Look g c =
       Gave scripted.NotYet,
       (subst (λ (o : Option Scripted). TakesFirst (g.S.Source.left c.args.self.now.source) (g.S.Source.left c.next.new.self) o) is c.in-Ok.ensures.takes, c.in-Ok.ensures.counts),
       (c.in-None.ensures.was, refl),
+      λ settings input taken out h. stands_behind settings (taken ++ scripted.NotYet ∷ []) _ reading.Open c.in-None.ensures.still tt,
       λ settings input taken out h.
           let s = c.in-None.ensures.stands settings input taken out h in
           (look_reading settings input taken out c.hand_out.new.self s.0, look_whole settings input taken out s.1, c.in-None.ensures.still),
@@ -26,6 +28,7 @@ returns-in-Event g c =
       Gave is.0,
       (subst (λ (o : Option Scripted). TakesFirst (g.S.Source.left c.args.self.now.source) (g.S.Source.left c.next.new.self) o) is.1 c.in-Ok.ensures.takes, c.in-Ok.ensures.counts),
       (c.in-None.ensures.was, gave_by is.0 c.took.result is.2 c.took.ensures.look),
+      λ settings input taken out h. c.took.ensures.stops is.0 is.2 settings input taken out (c.in-None.ensures.stands settings input taken out h).0,
       λ settings input taken out h.
           let s = c.in-None.ensures.stands settings input taken out h in
           c.took.ensures.took is.0 (ap (λ r. event_in r c.in-Ok.event) same ∙ is.1) is.2 settings input taken out s.0,

@@ -4,7 +4,8 @@ use Rattle.arrival_spec.specs.Mark.{arrivals_in}
 use Rattle.input_lane.specs.Hands.{meant}
 use Rattle.input_lane.specs.declared.state.Lane.{Lane}
 use Rattle.input_lane.specs.Inlets.{IsReading, IsTaken}
-use Rattle.input_lane.proofs.StandLemmas.{taken_more, taken_still, still_handed, within_more, none_whole, keeps_hand}
+use Rattle.input_lane.proofs.StandLemmas.{taken_more, taken_still, still_handed, within_more, none_whole, keeps_hand, full_more, stands_behind, ends_how}
+use Rattle.input_lane.specs.declared.state.Reading.TheVariants as reading
 use Rattle.input_lane.proofs.state.Lane.took.Goals as goal
 
 pub returns-in-Some-clause-took : goal.returns-in-Some-clause-took
@@ -41,3 +42,9 @@ pub returns-then-has_reached-clause-took : goal.returns-then-has_reached-clause-
 returns-then-has_reached-clause-took c = λ e at is settings input taken out r.
     let x : Lane = record c.args.self.now { state = c.take.new.self; taken = c.count_up-self.result } in
     c.finish.ensures.ends settings input (taken ++ e ∷ []) out (taken_more settings input taken out e c.args.self.now x is r (c.in-Ok.ensures e at is))
+
+pub returns-then-has_reached-clause-stops : goal.returns-then-has_reached-clause-stops
+returns-then-has_reached-clause-stops c = λ e is settings input taken out r.
+    let limit : c.args.self.now.stop_after < 2 ^ 64 = search rules in
+    stands_behind settings (taken ++ e ∷ []) c.finish.new.self.reading reading.Ended (ends_how reading.Ended c.finish.new.self.reading c.finish.result c.finish.ensures.how)
+    (full_more settings e taken c.args.self.now.taken c.count_up-self.result c.args.self.now.stop_after is r.told limit r.within c.count_up-self.ensures c.if-has_reached.ensures)
