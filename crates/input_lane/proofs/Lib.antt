@@ -5,5 +5,5 @@ mod CutLemmas
 mod IdleLemmas
 mod EventLemmas
 mod BringLemmas
-mod StandLemmas
-mod MarkLemmas
+pub mod StandLemmas
+pub mod MarkLemmas
