@@ -1,6 +1,7 @@
 -- A set is taken, whatever it is.
 use Rattle.std.proofs.Common.{◌≡◌, ℕ, ◌+◌, ◌<◌, ◌≤◌, refl, arith, List, [], ◌∷◌, map, Some, None, ap, sym, subst, ◌∙◌}
 use Rattle.std.specs.Prelude.{Option, Result, Ok, Err, OnOk}
+use Rattle.std.specs.List.{AllByRecursion}
 use Rattle.std.proofs.lemmas.Bool.{ne_eqb}
 use Rattle.wire_spec.specs.Content.{Definition, Touch, Part}
 use Rattle.wire_spec.specs.Content.Part.{Touches, Body}
@@ -18,12 +19,12 @@ use Rattle.run_spec.specs.Outcome.{SkipReason, by_records, by_definition}
 use Rattle.run_spec.specs.Outcome.Outcome.{Skipped}
 use Rattle.run_spec.specs.Outcome.SkipReason.{ReservedId, NoTemplate, NotRecords}
 use Rattle.pipeline_message.specs.declared.message.Place.{Place}
-use Rattle.pipeline_message.specs.Items.{record_at}
+use Rattle.pipeline_message.specs.Items.{record_at, IsRecordAt}
 use Rattle.record_places.specs.Places.{ArePlaced}
 use Rattle.message_decode.specs.declared.decoded.Decoded.{Decoded}
 use Rattle.message_decode.specs.Steps.{Stands, TakesTouches, Adds, Takes}
 use Rattle.message_decode.proofs.TouchLemmas.{keeps_none}
-use Rattle.message_decode.proofs.StepLemmas.{takes_touches, takes_body, reserved, by_valid, placed_gives, unplaced_gives}
+use Rattle.message_decode.proofs.StepLemmas.{takes_touches, takes_body, reserved, by_valid, placed_sound, placed_gives, unplaced_gives}
 
 -- a set of this reason was skipped
 abbrev pub Skips : Decoded → Decoded → Type 0
@@ -34,8 +35,8 @@ abbrev pub AddsBy : RawSet → Option Definition → Decoded → Decoded → Typ
 AddsBy raw found x y = (octets : List ℕ) → StandsIn octets raw → Adds octets (by_definition raw.id raw.body.now found) x y
 
 pub placed_adds : {X E : Type 0} (r : Result X E) (raw : RawSet) (def : Definition) (places : List Place) (x y : Decoded) → 0 < shortest def.fields → ArePlaced def.fields raw.body.now (raw.at + 4) places
-    → OnOk r ((octets : List ℕ) → Adds octets (by_records raw.id def (Some (map (record_at def.fields octets) places))) x y) → OnOk r (AddsBy raw (Some def) x y)
-placed_adds (Ok u) raw def places x y some p t = λ octets s. subst (λ o. Adds octets o x y) (placed_gives octets raw def places some s p) (t octets)
+    → OnOk r ((octets : List ℕ) → AllByRecursion (IsRecordAt def.fields octets) places → Adds octets (by_records raw.id def (Some (map (record_at def.fields octets) places))) x y) → OnOk r (AddsBy raw (Some def) x y)
+placed_adds (Ok u) raw def places x y some p t = λ octets s. subst (λ o. Adds octets o x y) (placed_gives octets raw def places some s p) (t octets (placed_sound octets raw def.fields places s p))
 placed_adds (Err e) raw def places x y some p t = tt
 
 pub unplaced_adds : (raw : RawSet) (def : Definition) (x y : Decoded) → 0 < shortest def.fields → (AreSomeRecords def.fields raw.body.now → ⊥) → Skips x y → AddsBy raw (Some def) x y

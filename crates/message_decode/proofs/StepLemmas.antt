@@ -1,7 +1,7 @@
 -- Sets are taken one after another.
 use Rattle.std.proofs.Common.{◌≡◌, ℕ, ◌+◌, ◌<◌, ◌≤◌, cond, List, [], ◌∷◌, ◌++◌, map, take, drop, length, refl, ap, sym, subst, ◌∙◌, arith, append_assoc, append-nil, length-append, Some}
 use Rattle.std.specs.Prelude.{count_by, sum_by, flat_map}
-use Rattle.std.specs.List.{concat}
+use Rattle.std.specs.List.{AllByRecursion, concat}
 use Rattle.std.proofs.lemmas.Bool.{le-ltb, lt-ltb}
 use Rattle.std.proofs.lemmas.List.{take-append-drop, length-drop, length-take-le}
 use Rattle.std.proofs.lemmas.List.Concat.{flat_map-append}
@@ -27,14 +27,14 @@ use Rattle.run_spec.proofs.MoreLemmas.{one_more_outcome}
 use Rattle.count_spec.specs.Counts.{is_skipped, records_in, left_out}
 use Rattle.count_spec.specs.Shown.{shown_number}
 use Rattle.pipeline_message.specs.declared.message.Place.{Place}
-use Rattle.pipeline_message.specs.Items.{octets_at, record_at, set_of}
+use Rattle.pipeline_message.specs.Items.{octets_at, record_at, set_of, IsRecordAt}
 use Rattle.pipeline_message.specs.Shown.{adds}
 use Rattle.record_places.specs.Places.{places_from, ArePlaced}
-use Rattle.record_places.proofs.PlaceLemmas.{found_at, records_are, records_not}
+use Rattle.record_places.proofs.PlaceLemmas.{found_at, sound_at, records_are, records_not}
 use Rattle.message_decode.specs.declared.counts.SetCounts.{SetCounts}
 use Rattle.message_decode.specs.declared.decoded.Decoded.{Decoded}
 use Rattle.message_decode.specs.Due.{due_behind, due_after}
-use Rattle.message_decode.specs.Steps.{Stands, TakesTouches, Adds, Found, Takes, Begins, Gives}
+use Rattle.message_decode.specs.Steps.{Stands, TakesTouches, AreSound, Adds, Found, Takes, Begins, Gives}
 use Rattle.message_decode.proofs.TouchLemmas.{none_more, then, keeps_none, keeps_then, count_both}
 use Rattle.message_decode.proofs.DueLemmas.{due_is}
 
@@ -55,6 +55,7 @@ pub found_none : (settings : Settings) (time : ℕ) (octets : List ℕ) (past : 
 found_none settings time octets past m x s = record {
   stands = subst (λ l. Stands settings l m) (sym (append-nil past)) s;
   sets = sym (append-nil (map (set_of octets) x.sets.items));
+  sound = λ before. before;
   records = none_more x.counts.records;
   skipped = none_more x.counts.skipped;
   ignored = none_more x.counts.ignored;
@@ -75,6 +76,7 @@ found_more {settings} {time} {octets} {past} {parts} {p} {mid} {new} {x} {y} {z}
       sets = g.sets
           ∙ (ap (λ l. l ++ decoded_sets here) f.sets
           ∙ (append_assoc (map (set_of octets) x.sets.items) (decoded_sets os) (decoded_sets here) ∙ ap (λ l. map (set_of octets) x.sets.items ++ l) (sym (ap decoded_sets all ∙ decoded_both os here))));
+      sound = λ before. g.sound (f.sound before);
       records = then _ _ x.counts.records y.counts.records z.counts.records f.records g.records ∙ ap (adds x.counts.records) (sym (ap records_in all ∙ records_both os here));
       skipped = then _ _ x.counts.skipped y.counts.skipped z.counts.skipped f.skipped g.skipped ∙ ap (adds x.counts.skipped) (sym (ap (count_by is_skipped) all ∙ skipped_both os here));
       ignored = then _ _ x.counts.ignored y.counts.ignored z.counts.ignored f.ignored g.ignored ∙ ap (adds x.counts.ignored) (sym (sum_by-append (left_out settings) parts (p ∷ [])));
@@ -104,6 +106,7 @@ takes_touches time octets touches old new x y t sets due = record {
       record {
         stands = subst (λ l. Stands settings (past ++ l) new) (sym (append-nil more)) f.stands;
         sets = ap (λ l. map (set_of octets) l.items) sets ∙ sym (append-nil (map (set_of octets) x.sets.items));
+        sound = subst (λ l. AreSound octets l.items) (sym sets);
         records = f.records ∙ none_more x.counts.records;
         skipped = f.skipped ∙ none_more x.counts.skipped;
         ignored = f.ignored ∙ ap (adds x.counts.ignored) (omega arith);
@@ -123,6 +126,7 @@ takes_body time id octets body m x y a = record {
       record {
         stands = subst (λ l. Stands settings l m) (sym (append-nil past)) s;
         sets = f.sets ∙ ap (λ l. map (set_of octets) x.sets.items ++ l) (sym (append-nil (decoded_in o)));
+        sound = f.sound;
         records = f.records;
         skipped = f.skipped;
         ignored = f.ignored ∙ none_more x.counts.ignored;
@@ -160,12 +164,31 @@ body_at octets set at stands least =
       omega arith,
     )
 
--- The records of a set's body are those at their places in the message.
+-- the records of a set's body stand in the message one behind another, from the body's first octet on
+record Stretch (octets : List ℕ) (start : ℕ) (list : List (List ℕ)) : Type 0 where
+  front : List ℕ
+  end : List ℕ
+  whole : octets ≡ front ++ (concat list ++ end)
+  begins : start ≡ length front
+
+stretch : (octets : List ℕ) (raw : RawSet) (fields : List FieldSpec) (list : List (List ℕ)) → StandsIn octets raw → IsRecords fields raw.body.now list → Stretch octets (raw.at + 4) list
+stretch octets raw fields list s cut =
+    let at = body_at octets s.0 raw.at s.2 (sized_set s.0 s.1.sized.unbroken).head in record {
+      front = at.0;
+      end = cut.end ++ at.1;
+      whole = at.2 ∙ ap (λ l. at.0 ++ l) (ap (λ l. l ++ at.1) (sym s.1.body ∙ cut.whole) ∙ append_assoc (concat list) cut.end at.1);
+      begins = at.3;
+    }
+
+-- They are those at their places in the message.
 pub stand_there : (octets : List ℕ) (raw : RawSet) (fields : List FieldSpec) (list : List (List ℕ)) → StandsIn octets raw → IsRecords fields raw.body.now list → map (octets_at octets) (places_from (raw.at + 4) list) ≡ list
-stand_there octets raw fields list s cut =
-    let at = body_at octets s.0 raw.at s.2 (sized_set s.0 s.1.sized.unbroken).head in
-    let whole : octets ≡ at.0 ++ (concat list ++ (cut.end ++ at.1)) = at.2 ∙ ap (λ l. at.0 ++ l) (ap (λ l. l ++ at.1) (sym s.1.body ∙ cut.whole) ∙ append_assoc (concat list) cut.end at.1) in
-    found_at octets at.0 (cut.end ++ at.1) list (raw.at + 4) at.3 whole
+stand_there octets raw fields list s cut = (let t = stretch octets raw fields list s cut in found_at octets t.front t.end list (raw.at + 4) t.begins t.whole)
+
+-- These places lie within the message.
+pub placed_sound : (octets : List ℕ) (raw : RawSet) (fields : List FieldSpec) (places : List Place) → StandsIn octets raw → ArePlaced fields raw.body.now (raw.at + 4) places → AllByRecursion (IsRecordAt fields octets) places
+placed_sound octets raw fields places s p =
+    let t = stretch octets raw fields p.0 s p.1 in
+    subst (AllByRecursion (IsRecordAt fields octets)) (sym p.2) (sound_at fields octets t.front t.end p.0 (raw.at + 4) t.begins t.whole p.1.each)
 
 map_both : (fields : List FieldSpec) (octets : List ℕ) (places : List Place) → map (record_at fields octets) places ≡ map (record_of fields) (map (octets_at octets) places)
 map_both fields octets [] = refl
@@ -193,6 +216,7 @@ all_found {settings} {time} {sequence} {octets} {past} {parts} {m} {x} {y} b f =
     record {
       stands = f.stands;
       sets = f.sets ∙ ap (λ l. map (set_of octets) l ++ decoded_sets os) b.sets;
+      sound = f.sound (subst (AreSound octets) (sym b.sets) tt);
       records = from_none _ _ (f.records ∙ ap (λ (c : SetCounts). adds c.records (records_in os)) b.counts);
       skipped = from_none _ _ (f.skipped ∙ ap (λ (c : SetCounts). adds c.skipped (count_by is_skipped os)) b.counts);
       ignored = from_none _ _ (f.ignored ∙ ap (λ (c : SetCounts). adds c.ignored (sum_by (left_out settings) parts)) b.counts);

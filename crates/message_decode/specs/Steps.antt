@@ -1,5 +1,6 @@
 -- What the sets of a message add to what was found, by the template records that a manager stands for.
 use Rattle.std.specs.Prelude.{ℕ, ◌≡◌, List, [], ◌∷◌, ◌++◌, map, flat_map, sum_by, count_by}
+use Rattle.std.specs.List.{AllByRecursion}
 use Rattle.wire_spec.specs.Content.{Touch, Part, Says}
 use Rattle.wire_spec.specs.Content.Part.{Touches}
 use Rattle.template_spec.specs.declared.outcome.Taken.{Taken}
@@ -14,7 +15,8 @@ use Rattle.run_spec.specs.Outcome.{Outcome, outcomes_after, decoded_in, decoded_
 use Rattle.ipfix_reader.specs.Walk.{message_of}
 use Rattle.count_spec.specs.Counts.{is_skipped, records_in, left_out, next_number}
 use Rattle.count_spec.specs.Shown.{shown_number}
-use Rattle.pipeline_message.specs.Items.{set_of}
+use Rattle.pipeline_message.specs.declared.message.DataSet.{DataSet}
+use Rattle.pipeline_message.specs.Items.{set_of, IsSoundSet}
 use Rattle.pipeline_message.specs.Shown.{adds}
 use Rattle.message_decode.specs.declared.counts.SetCounts.{SetCounts}
 use Rattle.message_decode.specs.declared.decoded.Decoded.{Decoded}
@@ -47,9 +49,14 @@ pub record TakesTouches (time : ℕ) (touches : List Touch) (old new : State) (b
   pub keeps : KeepsSettings old new
   pub found : (settings : Settings) (past : List (ℕ × Touch)) → Stands settings past old → TouchesFound settings time past touches new before after
 
+-- each set has a place in the message, and one record of its definition stands at each
+abbrev pub AreSound : List ℕ → List DataSet → Type 0
+AreSound octets sets = AllByRecursion (IsSoundSet octets) sets
+
 -- one set without template records is added to what was found
 pub record Adds (octets : List ℕ) (o : Outcome) (before after : Decoded) : Type 0 where
   pub sets : map (set_of octets) after.sets.items ≡ map (set_of octets) before.sets.items ++ decoded_in o
+  pub sound : AreSound octets before.sets.items → AreSound octets after.sets.items
   pub records : after.counts.records ≡ adds before.counts.records (records_in (o ∷ []))
   pub skipped : after.counts.skipped ≡ adds before.counts.skipped (count_by is_skipped (o ∷ []))
   pub ignored : after.counts.ignored ≡ before.counts.ignored
@@ -61,6 +68,7 @@ pub record Adds (octets : List ℕ) (o : Outcome) (before after : Decoded) : Typ
 pub record Found (settings : Settings) (time : ℕ) (octets : List ℕ) (past : List (ℕ × Touch)) (parts : List Part) (m : State) (before after : Decoded) : Type 0 where
   pub stands : Stands settings (past ++ flat_map (dated settings.transport time) parts) m
   pub sets : map (set_of octets) after.sets.items ≡ map (set_of octets) before.sets.items ++ decoded_sets (outcomes_after settings time past parts)
+  pub sound : AreSound octets before.sets.items → AreSound octets after.sets.items
   pub records : after.counts.records ≡ adds before.counts.records (records_in (outcomes_after settings time past parts))
   pub skipped : after.counts.skipped ≡ adds before.counts.skipped (count_by is_skipped (outcomes_after settings time past parts))
   pub ignored : after.counts.ignored ≡ adds before.counts.ignored (sum_by (left_out settings) parts)
@@ -82,6 +90,7 @@ pub record Begins (sequence : ℕ) (x : Decoded) : Type 0 where
 pub record Gives (settings : Settings) (time sequence : ℕ) (octets : List ℕ) (past : List (ℕ × Touch)) (parts : List Part) (m : State) (found : Decoded) : Type 0 where
   pub stands : Stands settings (past ++ flat_map (dated settings.transport time) parts) m
   pub sets : map (set_of octets) found.sets.items ≡ decoded_sets (outcomes_after settings time past parts)
+  pub sound : AreSound octets found.sets.items
   pub records : found.counts.records ≡ shown_number (records_in (outcomes_after settings time past parts))
   pub skipped : found.counts.skipped ≡ shown_number (count_by is_skipped (outcomes_after settings time past parts))
   pub ignored : found.counts.ignored ≡ shown_number (sum_by (left_out settings) parts)

@@ -1,5 +1,6 @@
 // The sets of a message, one after another.
 ghost use Rattle.std.specs.Prelude.{◌≡◌, [], ◌∷◌, ℕ, List, Some, false, map, IfOk, OnOk};
+ghost use Rattle.std.specs.List.{AllByRecursion};
 ghost use Rattle.wire_spec.specs.Content.{Part, Touch};
 ghost use Rattle.template_spec.specs.Late.{is_late};
 ghost use Rattle.template_spec.specs.Valid.{valid};
@@ -7,7 +8,7 @@ ghost use Rattle.ipfix_reader.specs.Octets.{octets_of};
 ghost use Rattle.ipfix_reader.specs.Walk.{RawSays, StandsIn};
 ghost use Rattle.run_spec.specs.Outcome.{by_definition, by_records, SkipReason};
 ghost use Rattle.run_spec.specs.Outcome.Outcome.{Skipped};
-ghost use Rattle.pipeline_message.specs.Items.{record_at};
+ghost use Rattle.pipeline_message.specs.Items.{record_at, IsRecordAt};
 ghost use Rattle.arrival_spec.specs.Settings.{Settings};
 ghost use Rattle.template_manager.specs.Snapshots.{KeepsSettings};
 ghost use Rattle.message_decode.specs.Steps.{Adds, Decodes, Stands, Takes};
@@ -40,7 +41,8 @@ fn put(
     template: u16,
     places: Vec<Place>,
 ) -> Result<(), WantOfMemory>
-    ensures { OnOk result ((octets : List ℕ) → Adds octets (by_records template def.now.value (Some (map (record_at def.now.value.fields octets) places.items))) found.old found.new) }
+    ensures { OnOk result ((octets : List ℕ) → AllByRecursion (IsRecordAt def.now.value.fields octets) places.items
+        → Adds octets (by_records template def.now.value (Some (map (record_at def.now.value.fields octets) places.items))) found.old found.new) }
 {
     if places.is_empty() {
         return Ok(());

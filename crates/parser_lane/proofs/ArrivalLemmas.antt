@@ -27,10 +27,13 @@ use Rattle.count_spec.proofs.MoreLemmas.{one_more_expected}
 use Rattle.count_spec.proofs.OpenLemmas.{not_true}
 use Rattle.pipeline_message.specs.declared.message.DataSet.{DataSet}
 use Rattle.pipeline_message.specs.declared.message.Msg.{Msg}
+use Rattle.pipeline_message.specs.declared.message.Msg.TheVariants.{SessionMsg, DataMsg, Terminate}
+use Rattle.pipeline_message.specs.declared.message.Msg.TheVariants.{Periodic as PeriodicMsg}
 use Rattle.pipeline_message.specs.Items.{item_of, set_of}
 use Rattle.pipeline_message.specs.Shown.{shown_counts}
 use Rattle.session_table.specs.declared.arrival.Arrival as given
 use Rattle.session_table.specs.declared.arrival.Arrival.TheVariants as gives
+use Rattle.message_decode.specs.Steps.{AreSound}
 use Rattle.session_domains.specs.declared.domain.Domain.{Domain}
 use Rattle.session_domains.specs.declared.domains.Domains.{Domains}
 use Rattle.session_domains.specs.declared.fate.Fate.{Fate}
@@ -38,7 +41,7 @@ use Rattle.session_domains.specs.declared.fate.Fate.TheVariants.{Crowded, Late, 
 use Rattle.session_domains.specs.Session.{due_later, StandsAt, StandFor, FateOf, Takes}
 use Rattle.parser_lane.specs.declared.open_sessions.OpenSessions.{OpenSessions}
 use Rattle.parser_lane.specs.declared.parser.Parser.{Parser}
-use Rattle.parser_lane.specs.Parsers.{MayCome, HasSession, inputs, numbers_due, SessionAt, IsFresh, Stands, CanCome, GivesItem, WorksBy, counts_by, malformed_by, sets_in}
+use Rattle.parser_lane.specs.Parsers.{MayCome, HasSession, inputs, numbers_due, SessionAt, IsFresh, Stands, CanCome, IsSoundMsg, HasOctets, IsMadeOf, GivesItem, WorksBy, counts_by, malformed_by, sets_in}
 use Rattle.parser_lane.proofs.KeyLemmas.{open_more, same_turned, other_key, opened_later, unopened_before, open_here, open_away, close_here, close_away}
 use Rattle.parser_lane.proofs.CountLemmas.{counts_more, add_nothing, add_malformed, add_late, add_crowded, add_taken, taken_adds, judged_work}
 
@@ -117,33 +120,37 @@ none_counted : (settings : Settings) (read : List ReadArrival) (r : ReadArrival)
 none_counted settings read r e = sym (ap shown_counts (counts_more settings read r nothing_counted e) ∙ add_nothing (counts (inputs settings) [] (works_of (inputs settings) read)))
 
 -- seconds
-pub tick_worked : (input seconds : ℕ) (p : OpenSessions) (msg : Msg) → item_of msg ≡ Some (Tick input seconds) → WorksBy (Some (Periodic input seconds)) p p msg
-tick_worked input seconds p msg item = (
+pub tick_worked : (input seconds : ℕ) (p : OpenSessions) (msg : Msg) → item_of msg ≡ Some (Tick input seconds) → IsSoundMsg msg → WorksBy (Some (Periodic input seconds)) p p msg
+tick_worked input seconds p msg item sound = (
   Periodic input seconds,
   refl,
-  λ settings read s come. (
-    item,
-    stands_later (Periodic input seconds) p s refl refl (λ key e. quiet refl (λ domain x. refl)) (λ key. still settings read (Periodic input seconds) key (get same_key p.rows key) (quiet refl (λ domain x. refl)) (periodic_open read input seconds key) (s.each key))
-        (s.counts_are ∙ none_counted settings read (Periodic input seconds) refl),
-  ),
+  λ settings read s come. record {
+    item = item;
+    sound = sound;
+    octets = tt;
+    stands = stands_later (Periodic input seconds) p s refl refl (λ key e. quiet refl (λ domain x. refl)) (λ key. still settings read (Periodic input seconds) key (get same_key p.rows key) (quiet refl (λ domain x. refl)) (periodic_open read input seconds key) (s.each key))
+        (s.counts_are ∙ none_counted settings read (Periodic input seconds) refl);
+  },
 )
   where
     periodic_open : (read : List ReadArrival) (input seconds : ℕ) (key : SessionKey) → has_key key (open_keys (read ++ Periodic input seconds ∷ [])) ≡ has_key key (open_keys read)
     periodic_open read input seconds key = ap (has_key key) (open_more read (Periodic input seconds))
 
 -- a session opens
-pub open_worked : (key : SessionKey) (transport : Transport) (old new : OpenSessions) (fresh : Domains) (msg : Msg) → item_of msg ≡ Some (Note key transport true) → new.transport ≡ old.transport → new.life ≡ old.life → new.counts ≡ old.counts
+pub open_worked : (key : SessionKey) (transport : Transport) (old new : OpenSessions) (fresh : Domains) (msg : Msg) → item_of msg ≡ Some (Note key transport true) → IsSoundMsg msg → new.transport ≡ old.transport → new.life ≡ old.life → new.counts ≡ old.counts
     → ((k : SessionKey) → get same_key new.rows k ≡ cond (same_key key k) (Some fresh) (get same_key old.rows k))
     → ((settings : Settings) → old.transport ≡ settings.transport → old.life ≡ settings.life → StandFor settings [] (λ domain. None) fresh) → WorksBy (Some (SessionOpen key transport)) old new msg
-open_worked key transport old new fresh msg item same_transport same_life same_counts updates begins = (
+open_worked key transport old new fresh msg item sound same_transport same_life same_counts updates begins = (
   SessionOpen key transport,
   refl,
-  λ settings read s come. (
-    item,
-    stands_later (SessionOpen key transport) new s same_transport same_life (λ k e. quiet refl (λ domain x. refl))
+  λ settings read s come. record {
+    item = item;
+    sound = sound;
+    octets = tt;
+    stands = stands_later (SessionOpen key transport) new s same_transport same_life (λ k e. quiet refl (λ domain x. refl))
         (λ k. subst (SessionAt settings (read ++ SessionOpen key transport ∷ []) k) (sym (updates k)) (at settings read s come k (same_key key k) refl))
-        (same_counts ∙ (s.counts_are ∙ none_counted settings read (SessionOpen key transport) refl)),
-  ),
+        (same_counts ∙ (s.counts_are ∙ none_counted settings read (SessionOpen key transport) refl));
+  },
 )
   where
     here : (settings : Settings) (read : List ReadArrival) → Stands settings read old → CanCome read (Some (SessionOpen key transport)) → SessionAt settings (read ++ SessionOpen key transport ∷ []) key (Some fresh)
@@ -160,17 +167,19 @@ open_worked key transport old new fresh msg item same_transport same_life same_c
     at settings read s come k false e = still settings read (SessionOpen key transport) k (get same_key old.rows k) (quiet refl (λ domain x. refl)) (open_away read key k transport (same_turned key k e)) (s.each k)
 
 -- a session closes
-pub close_worked : (key : SessionKey) (old new : OpenSessions) (msg : Msg) → item_of msg ≡ Some (Note key old.transport false) → new.transport ≡ old.transport → new.life ≡ old.life → new.counts ≡ old.counts
+pub close_worked : (key : SessionKey) (old new : OpenSessions) (msg : Msg) → item_of msg ≡ Some (Note key old.transport false) → IsSoundMsg msg → new.transport ≡ old.transport → new.life ≡ old.life → new.counts ≡ old.counts
     → ((k : SessionKey) → get same_key new.rows k ≡ cond (same_key key k) None (get same_key old.rows k)) → WorksBy (Some (SessionClose key)) old new msg
-close_worked key old new msg item same_transport same_life same_counts updates = (
+close_worked key old new msg item sound same_transport same_life same_counts updates = (
   SessionClose key,
   refl,
-  λ settings read s come. (
-    item ∙ ap (λ t. Some (Note key t false)) s.transport,
-    stands_later (SessionClose key) new s same_transport same_life (λ k e. quiet refl (λ domain x. refl))
+  λ settings read s come. record {
+    item = item ∙ ap (λ t. Some (Note key t false)) s.transport;
+    sound = sound;
+    octets = tt;
+    stands = stands_later (SessionClose key) new s same_transport same_life (λ k e. quiet refl (λ domain x. refl))
         (λ k. subst (SessionAt settings (read ++ SessionClose key ∷ []) k) (sym (updates k)) (at settings read s k (same_key key k) refl))
-        (same_counts ∙ (s.counts_are ∙ none_counted settings read (SessionClose key) refl)),
-  ),
+        (same_counts ∙ (s.counts_are ∙ none_counted settings read (SessionClose key) refl));
+  },
 )
   where
     at : (settings : Settings) (read : List ReadArrival) → Stands settings read old → (k : SessionKey) (b : Bool) → same_key key k ≡ b → SessionAt settings (read ++ SessionClose key ∷ []) k (cond b None (get same_key old.rows k))
@@ -182,24 +191,40 @@ close_worked key old new msg item same_transport same_life same_counts updates =
 raw_open : (read : List ReadArrival) (k key : SessionKey) (m : Result Message Malformed) → has_key key (open_keys (read ++ Raw k m ∷ [])) ≡ has_key key (open_keys read)
 raw_open read k key m = ap (has_key key) (open_more read (Raw k m))
 
+-- a message that is made of sound sets is sound
+sound_made : (octets : List ℕ) (sets : List DataSet) (msg : Msg) → IsMadeOf octets sets msg → AreSound octets sets → IsSoundMsg msg
+sound_made octets sets (SessionMsg note) made sound = absurd made
+sound_made octets sets (DataMsg m) made sound = subst (λ l. AreSound l m.value.sets.items) (sym made.0) (subst (AreSound octets) (sym made.1) sound)
+sound_made octets sets (PeriodicMsg input seconds) made sound = absurd made
+sound_made octets sets Terminate made sound = absurd made
+
+octets_made : (octets : List ℕ) (sets : List DataSet) (msg : Msg) → IsMadeOf octets sets msg → HasOctets octets msg
+octets_made octets sets (SessionMsg note) made = absurd made
+octets_made octets sets (DataMsg m) made = made.0
+octets_made octets sets (PeriodicMsg input seconds) made = absurd made
+octets_made octets sets Terminate made = absurd made
+
 -- a malformed one
-pub malformed_worked : (key : SessionKey) (octets : List ℕ) (old new : OpenSessions) (fault : Malformed) (msg : Msg) → FirstFault octets fault → item_of msg ≡ Some (Data key 0 0 0 []) → new.transport ≡ old.transport → new.life ≡ old.life
-    → new.rows ≡ old.rows → new.counts ≡ malformed_by old.counts → WorksBy (Some (Raw key octets)) old new msg
-malformed_worked key octets old new fault msg first item same_transport same_life same_rows counted = (
+pub malformed_worked : (key : SessionKey) (octets : List ℕ) (old new : OpenSessions) (fault : Malformed) (msg : Msg) → FirstFault octets fault → item_of msg ≡ Some (Data key 0 0 0 []) → IsMadeOf octets [] msg → new.transport ≡ old.transport
+    → new.life ≡ old.life → new.rows ≡ old.rows → new.counts ≡ malformed_by old.counts → WorksBy (Some (Raw key octets)) old new msg
+malformed_worked key octets old new fault msg first item made same_transport same_life same_rows counted = (
   Raw key (Err fault),
   (Err fault, first, refl),
-  λ settings read s come. (
-    item,
-    stands_later (Raw key (Err fault)) new s same_transport same_life (λ k e. quiet refl (λ domain x. refl))
+  λ settings read s come. record {
+    item = item;
+    sound = sound_made octets [] msg made tt;
+    octets = octets_made octets [] msg made;
+    stands = stands_later (Raw key (Err fault)) new s same_transport same_life (λ k e. quiet refl (λ domain x. refl))
         (λ k. subst (λ rows. SessionAt settings (read ++ Raw key (Err fault) ∷ []) k (get same_key rows k)) (sym same_rows) (still settings read (Raw key (Err fault)) k (get same_key old.rows k) (quiet refl (λ domain x. refl)) (raw_open read key k (Err fault)) (s.each k)))
         (counted ∙ (ap malformed_by s.counts_are
-        ∙ (add_malformed (counts (inputs settings) [] (works_of (inputs settings) read)) ∙ ap shown_counts (sym (counts_more settings read (Raw key (Err fault)) (record nothing_counted { malformed = 1 }) refl))))),
-  ),
+        ∙ (add_malformed (counts (inputs settings) [] (works_of (inputs settings) read)) ∙ ap shown_counts (sym (counts_more settings read (Raw key (Err fault)) (record nothing_counted { malformed = 1 }) refl)))));
+  },
 )
 
 -- what the fate of a well-formed message gives
 record FateGives (settings : Settings) (read : List ReadArrival) (key : SessionKey) (octets : List ℕ) (m : Message) (fate : Fate) : Type 0 where
   sets : decoded_sets (outcomes_if settings (messages_of key read) m (judge settings (messages_of key read) m)) ≡ map (set_of octets) (sets_in fate)
+  sound : AreSound octets (sets_in fate)
   due : (domain : ℕ) → numbers_due settings (read ++ Raw key (Ok m) ∷ []) key domain ≡ due_later settings (messages_of key read) (numbers_due settings read key) m domain
   counted : counts_by fate (shown_counts (counts (inputs settings) [] (works_of (inputs settings) read))) ≡ shown_counts (counts (inputs settings) [] (works_of (inputs settings) (read ++ Raw key (Ok m) ∷ [])))
 
@@ -222,11 +247,13 @@ counts_of_judged settings read key m j z e is =
 fate_gives : (settings : Settings) (read : List ReadArrival) (key : SessionKey) (octets : List ℕ) (m : Message) (fate : Fate) → FateOf settings octets (messages_of key read) (numbers_due settings read key) m fate → FateGives settings read key octets m fate
 fate_gives settings read key octets m Crowded j = record {
   sets = ap (λ x. decoded_sets (outcomes_if settings (messages_of key read) m x)) j;
+  sound = tt;
   due = λ domain. due_of settings read key m domain IsCrowded j refl;
   counted = add_crowded (counts (inputs settings) [] (works_of (inputs settings) read)) ∙ ap shown_counts (sym (counts_of_judged settings read key m IsCrowded (record nothing_counted { crowded = 1 }) j refl));
 }
 fate_gives settings read key octets m Late j = record {
   sets = ap (λ x. decoded_sets (outcomes_if settings (messages_of key read) m x)) j;
+  sound = tt;
   due = λ domain. due_of settings read key m domain IsLate j refl;
   counted = add_late (counts (inputs settings) [] (works_of (inputs settings) read)) ∙ ap shown_counts (sym (counts_of_judged settings read key m IsLate (record nothing_counted { late = 1 }) j refl));
 }
@@ -235,6 +262,7 @@ fate_gives settings read key octets m (Taken t) f =
     let g = f.1 in
     record {
       sets = ap (λ x. decoded_sets (outcomes_if settings (messages_of key read) m x)) j ∙ sym g.sets;
+      sound = g.sound;
       due = λ domain.
           due_of settings read key m domain IsTaken j
           (ap (λ b. cond (b && (m.domain == domain)) (next_number m.sequence (outcomes settings (messages_of key read) m)) (numbers_due settings read key domain)) (own_is key));
@@ -245,25 +273,27 @@ fate_gives settings read key octets m (Taken t) f =
 -- a well-formed one
 pub well_worked : (key : SessionKey) (octets : List ℕ) (old new : OpenSessions) (d e : Domains) (fate : Fate) (msg : Msg) (m : Message) → Says octets m → get same_key old.rows key ≡ Some d
     → ((k : SessionKey) → get same_key new.rows k ≡ cond (same_key key k) (Some e) (get same_key old.rows k)) → Takes octets d e fate → item_of msg ≡ Some (Data key m.domain m.export m.sequence (map (set_of octets) (sets_in fate)))
-    → new.transport ≡ old.transport → new.life ≡ old.life → new.counts ≡ counts_by fate old.counts → WorksBy (Some (Raw key octets)) old new msg
-well_worked key octets old new d e fate msg m says found updates takes item same_transport same_life counted = (
+    → IsMadeOf octets (sets_in fate) msg → new.transport ≡ old.transport → new.life ≡ old.life → new.counts ≡ counts_by fate old.counts → WorksBy (Some (Raw key octets)) old new msg
+well_worked key octets old new d e fate msg m says found updates takes item made same_transport same_life counted = (
   Raw key (Ok m),
   (Ok m, says, refl),
   λ settings read s come. worked settings read s come (subst (SessionAt settings read key) found (s.each key)),
 )
   where
-    worked : (settings : Settings) (read : List ReadArrival) → Stands settings read old → CanCome read (Some (Raw key octets)) → SessionAt settings read key (Some d) → GivesItem settings read (Raw key (Ok m)) new msg
+    worked : (settings : Settings) (read : List ReadArrival) → Stands settings read old → CanCome read (Some (Raw key octets)) → SessionAt settings read key (Some d) → GivesItem settings read (Raw key octets) (Raw key (Ok m)) new msg
     worked settings read s come at =
         let f = takes m says settings (messages_of key read) (numbers_due settings read key) at.1 in
         let g = fate_gives settings read key octets m fate f.0 in
         let messages : messages_of key (read ++ Raw key (Ok m) ∷ []) ≡ messages_of key read ++ m ∷ [] =
         messages_more key read (Raw key (Ok m)) ∙ ap (λ b. messages_of key read ++ cond b (m ∷ []) []) (own_is key) in
         let here : SessionAt settings (read ++ Raw key (Ok m) ∷ []) key (Some e) =
-        (raw_open read key key (Ok m) ∙ at.0, stand_due g.due (subst (λ l. StandFor settings l (due_later settings (messages_of key read) (numbers_due settings read key) m) e) (sym messages) f.1)) in (
-          item ∙ ap (λ l. Some (Data key m.domain m.export m.sequence l)) (sym g.sets),
-          stands_later (Raw key (Ok m)) new s same_transport same_life (λ k unopened. quiet_away settings read key k m (other_key key k (opened_keys read) (s.opened key come) unopened))
-              (λ k. subst (SessionAt settings (read ++ Raw key (Ok m) ∷ []) k) (sym (updates k)) (each settings read s here k (same_key key k) refl)) (counted ∙ (ap (counts_by fate) s.counts_are ∙ g.counted)),
-        )
+        (raw_open read key key (Ok m) ∙ at.0, stand_due g.due (subst (λ l. StandFor settings l (due_later settings (messages_of key read) (numbers_due settings read key) m) e) (sym messages) f.1)) in record {
+          item = item ∙ ap (λ l. Some (Data key m.domain m.export m.sequence l)) (sym g.sets);
+          sound = sound_made octets (sets_in fate) msg made g.sound;
+          octets = octets_made octets (sets_in fate) msg made;
+          stands = stands_later (Raw key (Ok m)) new s same_transport same_life (λ k unopened. quiet_away settings read key k m (other_key key k (opened_keys read) (s.opened key come) unopened))
+              (λ k. subst (SessionAt settings (read ++ Raw key (Ok m) ∷ []) k) (sym (updates k)) (each settings read s here k (same_key key k) refl)) (counted ∙ (ap (counts_by fate) s.counts_are ∙ g.counted));
+        }
       where
         each : (settings : Settings) (read : List ReadArrival) → Stands settings read old → SessionAt settings (read ++ Raw key (Ok m) ∷ []) key (Some e) → (k : SessionKey) (b : Bool) → same_key key k ≡ b
             → SessionAt settings (read ++ Raw key (Ok m) ∷ []) k (cond b (Some e) (get same_key old.rows k))

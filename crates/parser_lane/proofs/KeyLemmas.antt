@@ -21,7 +21,7 @@ or_none true = refl
 or_none false = refl
 
 -- a key more
-has_more : (key k : SessionKey) (keys : List SessionKey) → has_key key (keys ++ k ∷ []) ≡ has_key key keys || same_key key k
+pub has_more : (key k : SessionKey) (keys : List SessionKey) → has_key key (keys ++ k ∷ []) ≡ has_key key keys || same_key key k
 has_more key k keys = list_any-append (same_key key) keys (k ∷ []) ∙ ap (λ b. has_key key keys || b) (or_none (same_key key k))
 
 -- a key less

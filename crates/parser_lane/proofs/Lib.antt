@@ -1,3 +1,4 @@
 pub mod KeyLemmas
 pub mod CountLemmas
 pub mod ArrivalLemmas
+pub mod SessionLemmas

@@ -1,5 +1,5 @@
 -- Which arrivals a parser stands for, and what it gives for one more.
-use Rattle.std.specs.Prelude.{ℕ, ◌≡◌, true, false, if◌then◌else◌, List, [], ◌∷◌, ◌++◌, Option, None, Some, IsSome}
+use Rattle.std.specs.Prelude.{ℕ, ◌≡◌, true, false, if◌then◌else◌, List, [], ◌∷◌, ◌++◌, Option, None, Some, IsSome, ⊤}
 use Rattle.indexmap.specs.IndexMap.{IndexMap, get}
 use Rattle.col_base.specs.declared.base.SessionKey.{SessionKey}
 use Rattle.col_base.specs.declared.base.Transport.{Transport}
@@ -16,9 +16,10 @@ use Rattle.session_table.specs.declared.arrival.Arrival as given
 use Rattle.session_table.specs.declared.arrival.Arrival.TheVariants as gives
 use Rattle.pipeline_message.specs.declared.message.DataSet.{DataSet}
 use Rattle.pipeline_message.specs.declared.message.Msg.{Msg}
-use Rattle.pipeline_message.specs.declared.message.Msg.TheVariants.{Terminate}
+use Rattle.pipeline_message.specs.declared.message.Msg.TheVariants.{SessionMsg, DataMsg, Terminate}
+use Rattle.pipeline_message.specs.declared.message.Msg.TheVariants.{Periodic as PeriodicMsg}
 use Rattle.pipeline_message.specs.declared.run_counts.RunCounts.{RunCounts}
-use Rattle.pipeline_message.specs.Items.{item_of}
+use Rattle.pipeline_message.specs.Items.{item_of, IsSound}
 use Rattle.pipeline_message.specs.Shown.{adds, shown_counts}
 use Rattle.session_domains.specs.declared.domains.Domains.{Domains}
 use Rattle.session_domains.specs.declared.fate.Fate.{Fate}
@@ -72,14 +73,40 @@ abbrev pub CanCome : List ReadArrival → Option (Arrival (List ℕ)) → Type 0
 CanCome read None = Unit {0}
 CanCome read (Some a) = fits_behind (opened_keys read) (open_keys read) a ≡ true
 
--- the message of an arrival stands for its item behind those before, and the parser stands for one arrival more
-abbrev pub GivesItem : Settings → List ReadArrival → ReadArrival → OpenSessions → Msg → Type 0
-GivesItem settings read r new msg = (item_of msg ≡ Some (item_given (inputs settings) (work_of (inputs settings) read r))) × Stands settings (read ++ r ∷ []) new
+-- each set of a data message has a place, each place lies within the octets of the message, and one record of the set's
+-- definition stands there
+abbrev pub IsSoundMsg : Msg → Type 0
+IsSoundMsg (SessionMsg note) = ⊤
+IsSoundMsg (DataMsg m) = IsSound m.value
+IsSoundMsg (PeriodicMsg input seconds) = ⊤
+IsSoundMsg Terminate = ⊤
+
+-- a data message with these octets
+abbrev pub HasOctets : List ℕ → Msg → Type 0
+HasOctets octets (SessionMsg note) = ⊥
+HasOctets octets (DataMsg m) = m.value.octets.value ≡ octets
+HasOctets octets (PeriodicMsg input seconds) = ⊥
+HasOctets octets Terminate = ⊥
+
+-- octets that arrive are handed on
+abbrev pub HandsOn : Arrival (List ℕ) → Msg → Type 0
+HandsOn (SessionOpen key transport) msg = ⊤
+HandsOn (Raw key octets) msg = HasOctets octets msg
+HandsOn (SessionClose key) msg = ⊤
+HandsOn (Periodic input seconds) msg = ⊤
+
+-- the message of an arrival stands for its item behind those before, is sound and has the octets that arrived; the parser
+-- stands for one arrival more
+pub record GivesItem (settings : Settings) (read : List ReadArrival) (a : Arrival (List ℕ)) (r : ReadArrival) (new : OpenSessions) (msg : Msg) : Type 0 where
+  pub item : item_of msg ≡ Some (item_given (inputs settings) (work_of (inputs settings) read r))
+  pub sound : IsSoundMsg msg
+  pub octets : HandsOn a msg
+  pub stands : Stands settings (read ++ r ∷ []) new
 
 abbrev pub WorksBy : Option (Arrival (List ℕ)) → OpenSessions → OpenSessions → Msg → Type 0
 WorksBy None old new msg = (msg ≡ Terminate) × (new ≡ old)
 WorksBy (Some a) old new msg = (r : ReadArrival) × IsReadAs a r
-    × ((settings : Settings) (read : List ReadArrival) → Stands settings read old → CanCome read (Some a) → GivesItem settings read r new msg)
+    × ((settings : Settings) (read : List ReadArrival) → Stands settings read old → CanCome read (Some a) → GivesItem settings read a r new msg)
 
 -- an arrival was worked off, whichever came before
 abbrev pub Works : given.Arrival → OpenSessions → OpenSessions → Msg → Type 0
@@ -142,3 +169,10 @@ abbrev pub sets_in : Fate → List DataSet
 sets_in (Taken t) = t.sets.items
 sets_in Late = []
 sets_in Crowded = []
+
+-- a data message of these octets and sets
+abbrev pub IsMadeOf : List ℕ → List DataSet → Msg → Type 0
+IsMadeOf octets sets (SessionMsg note) = ⊥
+IsMadeOf octets sets (DataMsg m) = (m.value.octets.value ≡ octets) × (m.value.sets.items ≡ sets)
+IsMadeOf octets sets (PeriodicMsg input seconds) = ⊥
+IsMadeOf octets sets Terminate = ⊥

@@ -2,7 +2,7 @@
 ghost use Rattle.std.specs.Prelude.{◌≡◌, [], map, Some, IfOk};
 ghost use Rattle.run_spec.specs.Work.Item.{Data};
 ghost use Rattle.pipeline_message.specs.Items.{item_of, set_of};
-ghost use Rattle.parser_lane.specs.Parsers.{sets_in};
+ghost use Rattle.parser_lane.specs.Parsers.{sets_in, IsMadeOf};
 
 use col_base::{Octets, SessionKey, WantOfMemory};
 use ipfix_reader::Header;
@@ -19,7 +19,8 @@ pub fn data(
     octets: &Arc<Octets>,
     sets: Vec<DataSet>,
 ) -> Result<Msg, WantOfMemory>
-    ensures { IfOk result (λ msg. item_of msg ≡ Some (Data session header.domain header.export header.seq (map (set_of octets.now.value) sets.items))) }
+    ensures item { IfOk result (λ msg. item_of msg ≡ Some (Data session header.domain header.export header.seq (map (set_of octets.now.value) sets.items))) }
+    ensures made { IfOk result (IsMadeOf octets.now.value sets.items) }
 {
     let message = DataMessage {
         session,

@@ -1,18 +1,18 @@
 -- Records stand at their places, and are found there.
-use Rattle.std.proofs.Common.{◌≡◌, ℕ, ◌+◌, ◌^◌, ◌<◌, List, [], ◌∷◌, ◌++◌, None, Some, map, take, drop, length, refl, ap, sym, ◌∙◌, arith, append_assoc, append-nil, length-append}
+use Rattle.std.proofs.Common.{◌≡◌, ℕ, ◌+◌, ◌^◌, ◌<◌, List, [], ◌∷◌, ◌++◌, None, Some, map, take, drop, length, refl, ap, sym, subst, ◌∙◌, arith, append_assoc, append-nil, length-append}
 use Rattle.std.specs.Prelude.{Option}
 use Rattle.std.specs.List.{AllByRecursion, concat}
 use Rattle.std.proofs.Math.Seq.{take-append_seam, drop-append_seam}
 use Rattle.std.proofs.lemmas.List.Folds.{concat-append}
 use Rattle.wire_spec.specs.declared.field.FieldSpec.{FieldSpec}
-use Rattle.wire_spec.specs.Record.{IsRecord, IsRecords, AreSomeRecords, shortest}
+use Rattle.wire_spec.specs.Record.{IsRecord, IsSomeRecord, IsRecords, AreSomeRecords, shortest}
 use Rattle.wire_spec.proofs.RecordLemmas.{one_list}
 use Rattle.wire_spec.proofs.ValuesLemmas.{values_are}
 use Rattle.run_spec.specs.Records.{Record, record_of, records_of}
 use Rattle.run_spec.proofs.RecordLemmas.{IsRight, records_right}
 use Rattle.record_iter.specs.Walk.{GivesRecord, HaveRecords}
 use Rattle.pipeline_message.specs.declared.message.Place.{Place}
-use Rattle.pipeline_message.specs.Items.{octets_at}
+use Rattle.pipeline_message.specs.Items.{octets_at, IsRecordAt}
 use Rattle.record_places.specs.Places.{places_from}
 
 -- One record more stands behind the others.
@@ -46,14 +46,29 @@ placed_more start at places list first e f = (
 cut_at : (front r back : List ℕ) → take (length r) (drop (length front) (front ++ (r ++ back))) ≡ r
 cut_at front r back = ap (take (length r)) (drop-append_seam front (r ++ back)) ∙ take-append_seam r back
 
+-- a record behind some octets of a message stands at its place
+first_at : (octets front r back : List ℕ) (start : ℕ) → start ≡ length front → octets ≡ front ++ (r ++ back) → octets_at octets (record { start = start; len = length r }) ≡ r
+first_at octets front r back start s whole = ap (λ n. take (length r) (drop n octets)) s ∙ (ap (λ l. take (length r) (drop (length front) l)) whole ∙ cut_at front r back)
+
 -- The records of a body stand in the message at their places.
 pub found_at : (octets front end : List ℕ) (list : List (List ℕ)) (start : ℕ) → start ≡ length front → octets ≡ front ++ (concat list ++ end) → map (octets_at octets) (places_from start list) ≡ list
 found_at octets front end [] start s e = refl
 found_at octets front end (r ∷ list) start s e =
     let whole : octets ≡ front ++ (r ++ (concat list ++ end)) = e ∙ ap (λ l. front ++ l) (append_assoc r (concat list) end) in
-    let first : octets_at octets (record { start = start; len = length r }) ≡ r = ap (λ n. take (length r) (drop n octets)) s ∙ (ap (λ l. take (length r) (drop (length front) l)) whole ∙ cut_at front r (concat list ++ end)) in
-    ap (λ x. x ∷ map (octets_at octets) (places_from (start + length r) list)) first
+    ap (λ x. x ∷ map (octets_at octets) (places_from (start + length r) list)) (first_at octets front r (concat list ++ end) start s whole)
     ∙ ap (λ l. r ∷ l) (found_at octets (front ++ r) end list (start + length r) (ap (λ n. n + length r) s ∙ sym (length-append front r)) (whole ∙ sym (append_assoc front r (concat list ++ end))))
+
+-- Each of their places lies within the message, and one record stands there.
+pub sound_at : (fields : List FieldSpec) (octets front end : List ℕ) (list : List (List ℕ)) (start : ℕ) → start ≡ length front → octets ≡ front ++ (concat list ++ end) → AllByRecursion (IsSomeRecord fields) list
+    → AllByRecursion (IsRecordAt fields octets) (places_from start list)
+sound_at fields octets front end [] start s e each = tt
+sound_at fields octets front end (r ∷ list) start s e each =
+    let back = concat list ++ end in
+    let whole : octets ≡ front ++ (r ++ back) = e ∙ ap (λ l. front ++ l) (append_assoc r (concat list) end) in
+    let size : length octets ≡ length front + (length r + length back) = ap length whole ∙ (length-append front (r ++ back) ∙ ap (λ n. length front + n) (length-append r back)) in (
+      (omega arith, subst (IsSomeRecord fields) (sym (first_at octets front r back start s whole)) each.0),
+      sound_at fields octets (front ++ r) end list (start + length r) (ap (λ n. n + length r) s ∙ sym (length-append front r)) (whole ∙ sym (append_assoc front r back)) each.1,
+    )
 
 -- computed values are those of a record
 own_values : (fields : List FieldSpec) (records : List Record) → AllByRecursion (λ r. IsRecord fields r.octets r.values) records → records ≡ map (record_of fields) (map (λ r. r.octets) records)

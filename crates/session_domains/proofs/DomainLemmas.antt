@@ -16,7 +16,7 @@ use Rattle.ipfix_reader.specs.Walk.{message_of}
 use Rattle.pipeline_message.specs.Items.{set_of}
 use Rattle.message_decode.specs.declared.counts.SetCounts.{SetCounts}
 use Rattle.message_decode.specs.declared.decoded.Decoded.{Decoded}
-use Rattle.message_decode.specs.Steps.{Stands, Gives, Decodes}
+use Rattle.message_decode.specs.Steps.{Stands, AreSound, Gives, Decodes}
 use Rattle.session_domains.specs.declared.domain.Domain.{Domain}
 use Rattle.session_domains.specs.declared.fate.Fate.TheVariants.{Late, Taken}
 use Rattle.session_domains.specs.declared.fate.TakenMessage.{TakenMessage}
@@ -65,6 +65,7 @@ taken_by {settings} {octets} {newest} {past} {due} {parts} {new} {found} {t} l =
   l.early,
   record {
     sets = ap (λ x. map (set_of octets) x.items) l.sets ∙ l.gives.sets;
+    sound = subst (λ x. AreSound octets x.items) (sym l.sets) l.gives.sound;
     records = ap (λ (c : SetCounts). c.records) l.counts ∙ l.gives.records;
     skipped = ap (λ (c : SetCounts). c.skipped) l.counts ∙ l.gives.skipped;
     ignored = ap (λ (c : SetCounts). c.ignored) l.counts ∙ l.gives.ignored;

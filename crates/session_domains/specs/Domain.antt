@@ -11,7 +11,7 @@ use Rattle.count_spec.specs.Counts.{gap, is_behind, is_skipped, left_out, next_n
 use Rattle.count_spec.specs.Shown.{shown_number}
 use Rattle.ipfix_reader.specs.declared.message.Header.{Header}
 use Rattle.pipeline_message.specs.Items.{set_of}
-use Rattle.message_decode.specs.Steps.{Stands}
+use Rattle.message_decode.specs.Steps.{Stands, AreSound}
 use Rattle.session_domains.specs.declared.domain.Domain.{Domain}
 use Rattle.session_domains.specs.declared.fate.Fate.{Fate}
 use Rattle.session_domains.specs.declared.fate.Fate.TheVariants.{Crowded, Late, Taken}
@@ -33,6 +33,7 @@ pub record DomainStands (settings : Settings) (past : List (ℕ × Touch)) (newe
 -- definitions give
 pub record IsTakenAs (settings : Settings) (octets : List ℕ) (past : List (ℕ × Touch)) (due : Option ℕ) (m : Message) (t : TakenMessage) : Type 0 where
   pub sets : map (set_of octets) t.sets.items ≡ decoded_sets (outcomes_after settings m.export past m.parts)
+  pub sound : AreSound octets t.sets.items
   pub records : t.counts.records ≡ shown_number (records_in (outcomes_after settings m.export past m.parts))
   pub skipped : t.counts.skipped ≡ shown_number (count_by is_skipped (outcomes_after settings m.export past m.parts))
   pub ignored : t.counts.ignored ≡ shown_number (sum_by (left_out settings) m.parts)

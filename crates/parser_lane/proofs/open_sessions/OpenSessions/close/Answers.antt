@@ -8,4 +8,4 @@ pub returns : goal.returns
 returns c =
     let old = c.args.self.now in
     let new : OpenSessions = record old { rows = c.swap_remove-domains.new.self } in
-    close_worked c.args.key old new (SessionMsg (record { key = c.args.key; transport = old.transport; opened = false })) refl refl refl refl (λ k. c.swap_remove-domains.ensures.updates.0 k)
+    close_worked c.args.key old new (SessionMsg (record { key = c.args.key; transport = old.transport; opened = false })) refl tt refl refl refl (λ k. c.swap_remove-domains.ensures.updates.0 k)

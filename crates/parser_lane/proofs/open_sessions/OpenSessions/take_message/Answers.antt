@@ -4,6 +4,7 @@ use Rattle.wire_spec.specs.Content.{Says}
 use Rattle.wire_spec.proofs.ContentLemmas.{some_says}
 use Rattle.session_domains.specs.Session.{Takes}
 use Rattle.parser_lane.specs.declared.open_sessions.OpenSessions.{OpenSessions}
+use Rattle.parser_lane.specs.Parsers.{IsMadeOf}
 use Rattle.parser_lane.proofs.ArrivalLemmas.{item_of_some, well_worked}
 use Rattle.parser_lane.proofs.open_sessions.OpenSessions.take_message.Goals as goal
 
@@ -18,7 +19,8 @@ returns-clause-ok c =
     let t = c.in_ok-fate.ensures in
     let h = c.header-header.ensures in
     let new : OpenSessions = record old { rows = c.take_in_session.new.rows; counts = c.counted-counts.result } in
-    let item = item_of_some c.in_ok-msg.msg c.args.key octets m c.header-header.result.domain c.header-header.result.export c.header-header.result.seq c.sets_of.result.items _ c.in_ok-msg.ensures (h.domain ∙ sym says.domain) (h.export ∙ sym says.export)
+    let item = item_of_some c.in_ok-msg.msg c.args.key octets m c.header-header.result.domain c.header-header.result.export c.header-header.result.seq c.sets_of.result.items _ c.in_ok-msg.ensures.item (h.domain ∙ sym says.domain) (h.export ∙ sym says.export)
     (h.seq ∙ sym says.sequence) c.sets_of.ensures in
-    well_worked c.args.key octets old new t.before t.after c.in_ok-fate.fate c.in_ok-msg.msg m (subst (λ (l : List ℕ). Says l m) of says) t.found t.updates (subst (λ (l : List ℕ). Takes l t.before t.after c.in_ok-fate.fate) of t.takes) item refl refl
+    let made = subst (λ l. IsMadeOf octets l c.in_ok-msg.msg) c.sets_of.ensures c.in_ok-msg.ensures.made in
+    well_worked c.args.key octets old new t.before t.after c.in_ok-fate.fate c.in_ok-msg.msg m (subst (λ (l : List ℕ). Says l m) of says) t.found t.updates (subst (λ (l : List ℕ). Takes l t.before t.after c.in_ok-fate.fate) of t.takes) item made refl refl
     c.counted-counts.ensures
