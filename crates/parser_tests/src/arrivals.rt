@@ -1,13 +1,11 @@
-// The messages of a session, and what is counted of them.
-ghost use Rattle.std.specs.Prelude.{IfOk};
-ghost use Rattle.parser_tests.specs.Session.{HasOpen};
+// A parser, and sessions that open, bring messages and close.
+ghost use Rattle.std.specs.Prelude.{◌≡◌, ◌+◌, IfOk};
+ghost use Rattle.parser_lane.specs.Session.{HasOpen, MayOpen};
 
 use arrival_spec::InputSpec;
 use col_base::{Lifetimes, Octets, SessionKey, Text, Transport, WantOfMemory};
 use config_spec::InputConf;
 use parser_lane::Parser;
-use pipeline_message::RunCounts;
-use sample_messages::{DATA_ALONE, ONE_FLOW, WITHDRAWAL};
 use session_table::Arrival;
 use std::alloc::{AllocError, Global};
 use std::sync::Arc;
@@ -30,17 +28,32 @@ fn conf(alloc: Global, transport: Transport) -> Result<InputConf, WantOfMemory> 
     })
 }
 
-/// A parser in whose input a session opened.
-fn opened(alloc: Global, key: SessionKey, transport: Transport) -> Result<Parser, WantOfMemory>
-    ensures { IfOk result (HasOpen key) }
+/// The session of a number of input 0.
+pub fn key(number: u32) -> SessionKey
+    ensures { result.number ≡ number }
 {
-    let mut parser = Parser::new(alloc, &conf(alloc, transport)?)?;
-    parser.work(&Arrival::SessionOpen(key, transport))?;
+    SessionKey { input: 0, number }
+}
+
+/// A parser to which nothing came.
+pub fn parser(alloc: Global, transport: Transport) -> Result<Parser, WantOfMemory>
+    ensures { IfOk result (MayOpen 0) }
+{
+    let parser = Parser::new(alloc, &conf(alloc, transport)?)?;
     Ok(parser)
 }
 
+/// The session of the next number opens.
+pub fn open(parser: &mut Parser, key: SessionKey, transport: Transport) -> Result<(), WantOfMemory>
+    requires { MayOpen key.number parser.old }
+    ensures { IfOk result (λ _. HasOpen key parser.new) }
+{
+    parser.work(&Arrival::SessionOpen(key, transport))?;
+    Ok(())
+}
+
 /// The session brings a message.
-fn bring(
+pub fn bring(
     alloc: Global,
     parser: &mut Parser,
     key: SessionKey,
@@ -54,55 +67,11 @@ fn bring(
     Ok(())
 }
 
-/// What a parser counts of a session that brings some messages.
-fn counts(
-    alloc: Global,
-    transport: Transport,
-    messages: &[&[u8]],
-) -> Result<RunCounts, WantOfMemory> {
-    let key = SessionKey {
-        input: 0,
-        number: 0,
-    };
-    let mut parser = opened(alloc, key, transport)?;
-    for octets in messages {
-        bring(alloc, &mut parser, key, octets)?;
-    }
-    Ok(parser.counts())
-}
-
-/// A template with a record, its withdrawal, a record alone, and the first message again. Over TCP the record alone has no
-/// template, and from then on no sequence number is due; over UDP the withdrawal means nothing, and the message that
-/// comes again is behind (RFC 7011, sections 3.1 and 8).
-const MESSAGES: [&[u8]; 4] = [ONE_FLOW, WITHDRAWAL, DATA_ALONE, ONE_FLOW];
-
-#[test]
-fn a_withdrawal_is_taken_over_tcp(rt: HostRuntime) {
-    let counts = counts(rt.alloc(), Transport::Tcp, &MESSAGES).expect(&rt, "memory");
-    assert!(rt;
-        counts
-            == RunCounts {
-                messages: 4,
-                records: 2,
-                skipped: 1,
-                ..RunCounts::none()
-            },
-        "{counts:?}"
-    );
-}
-
-#[test]
-fn a_withdrawal_is_ignored_over_udp(rt: HostRuntime) {
-    let counts = counts(rt.alloc(), Transport::Udp, &MESSAGES).expect(&rt, "memory");
-    assert!(rt;
-        counts
-            == RunCounts {
-                messages: 4,
-                records: 3,
-                ignored: 1,
-                disordered: 1,
-                ..RunCounts::none()
-            },
-        "{counts:?}"
-    );
+/// The session closes.
+pub fn close(parser: &mut Parser, key: SessionKey) -> Result<(), WantOfMemory>
+    requires { HasOpen key parser.old }
+    ensures { IfOk result (λ _. MayOpen (key.number + 1) parser.new) }
+{
+    parser.work(&Arrival::SessionClose(key))?;
+    Ok(())
 }

@@ -1,5 +1,10 @@
-//! Tests of the parser of `parser_lane`: the messages of a session, with what was counted of them.
+//! Tests of the parser of `parser_lane`: what it counts of the messages of a session, and what it keeps of sessions that
+//! closed.
 #![tactic(auto)]
 
 #[cfg(test)]
 mod arrivals;
+#[cfg(test)]
+mod counts;
+#[cfg(test)]
+mod memory;

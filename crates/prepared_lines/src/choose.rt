@@ -32,9 +32,6 @@ fn are_fixed(fields: &[FieldSpec]) -> bool
 fn hot_member(member: &Member, place: ValuePlace) -> Option<HotMember>
     ensures { IfSome result (λ fast. IsHotMember place member.now fast) }
 {
-    if member.literal.len() > BLOCK {
-        return None;
-    }
     let Some(kind) = member.kind else {
         return None;
     };
@@ -42,7 +39,7 @@ fn hot_member(member: &Member, place: ValuePlace) -> Option<HotMember>
         return None;
     };
     Some(HotMember {
-        literal: Literal::new(member.literal.as_slice()),
+        literal: Literal::fitting(member.literal.as_slice())?,
         shape,
         at: place.at,
     })

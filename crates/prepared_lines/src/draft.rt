@@ -6,6 +6,7 @@ ghost use Rattle.prepared_lines.specs.Grows.{GrowsBy};
 
 use crate::choose::way_of;
 use crate::member::Member;
+use crate::piece::Piece;
 use crate::prepared::PreparedLine;
 use col_base::Octets;
 use std::alloc::{AllocError, Global};
@@ -62,7 +63,7 @@ impl Draft {
         ensures ok { OnOk result (GrowsBy self.old self.new (λ values. value_text kind (value_at values field))) }
         ensures err { OnErr result (self.new ≡ self.old) }
     {
-        let literal = Octets::from_slice(self.alloc, self.end.as_slice())?;
+        let literal = Piece::new(self.alloc, self.end.as_slice())?;
         self.members.push(Member {
             literal,
             kind,

@@ -78,7 +78,7 @@ fn place_member(member: &Member, place: ValuePlace, rec: &[u8], text: &mut [u8],
     ensures grown { take result text.new ≡ take at text.old ++ placed_text rec.now member.now place }
     ensures near { result ≤ at + most_of_placed member.now place }
 {
-    let end = place_piece(member.literal.as_slice(), text, at);
+    let end = member.literal.place(text, at);
     place_value(member.kind, octets_at(rec, place), text, end)
 }
 

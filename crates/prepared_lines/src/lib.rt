@@ -13,6 +13,7 @@ mod hot;
 mod lines;
 mod literal;
 mod member;
+mod piece;
 mod places;
 mod prepared;
 mod shape;

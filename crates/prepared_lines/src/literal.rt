@@ -1,5 +1,5 @@
 // Octets that stand before a value, in a block.
-ghost use Rattle.std.specs.Prelude.{◌≡◌, ◌≤◌, ◌+◌, ◌++◌, length, take};
+ghost use Rattle.std.specs.Prelude.{◌≡◌, ◌≤◌, ◌+◌, ◌++◌, IfSome, length, take};
 
 use std::marker::Model;
 use value_text::{BLOCK, place_block};
@@ -70,12 +70,23 @@ impl Literal {
         }
     }
 
+    /// The octets, in a block, where they fit one.
+    pub fn fitting(octets: &[u8]) -> Option<Literal>
+        ensures { IfSome result (λ block. block ≡ octets.now) }
+    {
+        if octets.len() > BLOCK {
+            return None;
+        }
+        Some(Literal::new(octets))
+    }
+
     /// Puts the octets behind a place: as half a block where they fit one, since stores are what the fast loop has most of.
     #[inline(always)]
     pub fn place(&self, text: &mut [u8], at: usize) -> usize
         requires { at + 64 ≤ length text.old }
         ensures grown { take result text.new ≡ take at text.old ++ self.now }
         ensures near { result ≤ at + 64 }
+        ensures end { result ≡ at + length self.now }
     {
         if self.len <= HALF {
             place_half(first_half(&self.block), text, at);

@@ -1,11 +1,12 @@
 -- What is left of a piece that was put into the room: the digits of an octet, and of a number.
 use Rattle.std.proofs.Common.{◌≡◌, ℕ, zero, suc, ◌+◌, ◌*◌, ◌<◌, ◌≤◌, inl, inr, Bool, true, ◌&&◌, List, [], ◌∷◌, ◌++◌, get_or, length, take, refl, ap, sym, ◌∙◌, arith}
+use Rattle.std.specs.Prelude.{nat_eq}
 use Rattle.std.specs.Str.{bytes_eq}
 use Rattle.std.proofs.Math.Seq.{take-append-add, take-append_seam}
 use Rattle.std.proofs.lemmas.List.{take-take, length-take-le}
 use Rattle.std.proofs.lemmas.Slice.Eq.{bytes_eq-Decides}
-use Rattle.std.proofs.lemmas.Bool.{and_parts}
-use Rattle.value_text.specs.declared.dotted.TheConstants.{ROWS}
+use Rattle.std.proofs.lemmas.Bool.{and_parts, eqb-true}
+use Rattle.value_text.specs.declared.dotted.TheConstants.{ROWS, DIGIT_COUNTS}
 use Rattle.value_text.specs.Dotted.{octet_digits, marked, row}
 use Rattle.value_text.proofs.DottedLemmas.{below_or_last, at_most_three}
 
@@ -71,3 +72,25 @@ each_row (suc k) n all lt =
 
 pub row_is : (n : ℕ) → n < 256 → get_or ROWS (4 * n) 0 ∷ get_or ROWS (4 * n + 1) 0 ∷ get_or ROWS (4 * n + 2) 0 ∷ get_or ROWS (4 * n + 3) 0 ∷ [] ≡ row n
 row_is n lt = each_row 256 n all_rows lt
+
+-- so many numbers have as many digits as the table says
+are_counts : ℕ → Bool
+are_counts zero = true
+are_counts (suc n) = nat_eq (get_or DIGIT_COUNTS n 0) (length (octet_digits n)) && are_counts n
+
+all_counts : are_counts 256 ≡ true
+unfolding are_counts
+all_counts = refl
+
+each_is_counted : (k n : ℕ) → are_counts k ≡ true → n < k → get_or DIGIT_COUNTS n 0 ≡ length (octet_digits n)
+unfolding are_counts
+each_is_counted zero n all lt = absurd (omega arith)
+each_is_counted (suc k) n all lt =
+    let parts = and_parts _ _ all in
+    elim (below_or_last n k lt) [
+      | inl e ↦ ap (λ m. get_or DIGIT_COUNTS m 0) e ∙ (eqb-true _ _ parts.0 ∙ ap (λ m. length (octet_digits m)) (sym e))
+      | inr l ↦ each_is_counted k n parts.1 l
+    ]
+
+pub count_is : (n : ℕ) → n < 256 → get_or DIGIT_COUNTS n 0 ≡ length (octet_digits n)
+count_is n lt = each_is_counted 256 n all_counts lt

@@ -1,4 +1,4 @@
-use Rattle.parser_tests.proofs.SessionLemmas.{takes}
+use Rattle.parser_lane.proofs.SessionLemmas.{takes}
 use Rattle.parser_tests.proofs.arrivals.bring.Goals as goal
 
 pub work-requires : goal.work-requires
