@@ -1,0 +1,4 @@
+pub mod Entries
+pub mod Outputs
+pub mod Logs
+pub mod Logged
