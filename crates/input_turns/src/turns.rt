@@ -1,0 +1,90 @@
+// Inputs in turn.
+ghost use Rattle.std.specs.Prelude.{◌≡◌, true, All, is_some};
+ghost use Rattle.std.specs.List.{list_all};
+ghost use Rattle.run_input.specs.Inputs.{IsRight};
+ghost use Rattle.logged_output.specs.Logged.{Took};
+ghost use Rattle.input_turns.specs.Turns.{Follows, Turned};
+
+use logged_output::LoggedOutput;
+use message_texts::MessageTexts;
+use run_input::{Input, InputAnswer};
+use site_io::{Sink, Source};
+use std::sync::Wait;
+
+/// How often an input that answers is asked before the next one.
+const QUESTIONS: usize = 1000;
+
+/// Asks an input once, and hands its message on. Answers whether it may be asked again at once: it has not ended, and its
+/// source had something.
+fn ask<S: Source, T: MessageTexts, K: Sink>(
+    input: &mut Input<S>,
+    taker: &mut LoggedOutput<T, K>,
+) -> bool
+    requires { IsRight S.left S.faults input.old }
+    ensures right { IsRight S.left S.faults input.new }
+    ensures turned { Turned S.left S.faults (Took T.stands K.held K.faults) input.old input.new taker.old taker.new }
+{
+    let number = input.number();
+    match input.next() {
+        InputAnswer::Message(message) => {
+            taker.take(number, &message);
+            true
+        }
+        InputAnswer::Nothing => true,
+        InputAnswer::NotYet => false,
+        InputAnswer::Ended => false,
+    }
+}
+
+/// The turn of an input.
+fn turn<S: Source, T: MessageTexts, K: Sink>(input: &mut Input<S>, taker: &mut LoggedOutput<T, K>)
+    requires { IsRight S.left S.faults input.old }
+    ensures right { IsRight S.left S.faults input.new }
+    ensures turned { Turned S.left S.faults (Took T.stands K.held K.faults) input.old input.new taker.old taker.new }
+{
+    for _ in 0..QUESTIONS {
+        if !ask(input, taker) {
+            return;
+        }
+    }
+}
+
+/// A turn of each input.
+fn round<S: Source, T: MessageTexts, K: Sink>(
+    inputs: &mut Vec<Input<S>>,
+    taker: &mut LoggedOutput<T, K>,
+)
+    requires { All (IsRight S.left S.faults) inputs.old.items }
+    ensures right { All (IsRight S.left S.faults) inputs.new.items }
+    ensures follows { Follows S.left S.faults (Took T.stands K.held K.faults) inputs.old.items inputs.new.items taker.old taker.new }
+{
+    for i in 0..inputs.len() {
+        turn(&mut inputs[i], taker);
+    }
+}
+
+/// Whether all inputs have ended.
+fn have_ended<S: Source>(inputs: &Vec<Input<S>>) -> bool
+    ensures { result ≡ list_all (λ x. is_some x.end) inputs.now.items }
+{
+    inputs.iter().all(|input| input.end().is_some())
+}
+
+/// Asks all inputs in turn until they have ended, and hands each of their messages on. It returns once all have.
+pub fn ask_all<R: Wait, S: Source, T: MessageTexts, K: Sink>(
+    rt: &R,
+    inputs: &mut Vec<Input<S>>,
+    taker: &mut LoggedOutput<T, K>,
+)
+    requires { All (IsRight S.left S.faults) inputs.old.items }
+    ensures ended { list_all (λ x. is_some x.end) inputs.new.items ≡ true }
+    ensures follows { Follows S.left S.faults (Took T.stands K.held K.faults) inputs.old.items inputs.new.items taker.old taker.new }
+{
+    for _ in rt.forever() {
+        if have_ended(inputs) {
+            return;
+        }
+        round(inputs, taker);
+    }
+    unreachable!()
+}
