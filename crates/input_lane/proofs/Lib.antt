@@ -5,5 +5,5 @@ mod CutLemmas
 mod IdleLemmas
 mod EventLemmas
 mod BringLemmas
-mod StandLemmas
+pub mod StandLemmas
 mod MarkLemmas
