@@ -1,5 +1,5 @@
 -- Where the records of a body stand: each behind those before it, the first at the start of the body.
-use Rattle.std.specs.Prelude.{ℕ, ◌≡◌, ◌+◌, List, [], ◌∷◌, Option, MatchOption, length}
+use Rattle.std.specs.Prelude.{ℕ, zero, suc, ◌≡◌, ◌+◌, List, [], ◌∷◌, Option, MatchOption, length}
 use Rattle.std.specs.declared.vec.Vec.{Vec}
 use Rattle.std.specs.declared.alloc.Global.{Global}
 use Rattle.wire_spec.specs.declared.field.FieldSpec.{FieldSpec}
@@ -10,6 +10,11 @@ use Rattle.pipeline_message.specs.declared.message.Place.{Place}
 abbrev pub places_from : ℕ → List (List ℕ) → List Place
 places_from start [] = []
 places_from start (r ∷ records) = record { start = start; len = length r } ∷ places_from (start + length r) records
+
+-- so many places of one length, one behind another, from an octet on
+abbrev pub even_places : ℕ → ℕ → ℕ → List Place
+even_places start len zero = []
+even_places start len (suc n) = record { start = start; len = len } ∷ even_places (start + len) len n
 
 -- the body has these records, at these places
 abbrev pub ArePlaced : List FieldSpec → List ℕ → ℕ → List Place → Type 0

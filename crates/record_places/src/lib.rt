@@ -2,6 +2,7 @@
 //! Nothing is copied. Memory is asked for once, for all places together.
 #![tactic(auto)]
 
+mod even;
 mod walk;
 
 pub use walk::places;

@@ -2,7 +2,7 @@ use Rattle.std.proofs.Common.{◌++◌, ◌∷◌, [], ap, ◌∙◌, arith, rul
 use Rattle.record_iter.specs.Left.{fields_of_each, records_left}
 use Rattle.record_iter.proofs.WalkLemmas.{records_none, records_more}
 use Rattle.record_places.proofs.PlaceLemmas.{placed_more}
-use Rattle.record_places.proofs.walk.places.Goals as goal
+use Rattle.record_places.proofs.walk.walked_places.Goals as goal
 
 pub loop-record-init : goal.loop-record-init
 loop-record-init c =
