@@ -83,7 +83,7 @@ all_there [] all = refl
 all_there (d ∷ sets) all =
     ap (λ b. cond b (d ∷ sets_behind [] sets) (sets_behind [] sets)) all.0 ∙ ap (λ (l : List DecodedSet). d ∷ l) (all_there sets all.1)
 
-some_left : (sets : List DecodedSet) → AllByRecursion (λ d. has_records d ≡ true) (filter has_records sets)
+pub some_left : (sets : List DecodedSet) → AllByRecursion (λ d. has_records d ≡ true) (filter has_records sets)
 some_left [] = tt
 some_left (d ∷ sets) = by_test (has_records d) refl (some_left sets)
   where
