@@ -1,0 +1,4 @@
+pub mod Table
+pub mod Suits
+pub mod Behind
+pub mod Left

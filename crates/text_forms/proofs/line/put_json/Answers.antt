@@ -1,0 +1,23 @@
+use Rattle.std.proofs.Common.{◌++◌, List, map, take, get_or, ap, sym, ◌∙◌}
+use Rattle.std.proofs.lemmas.List.{take_more}
+use Rattle.pipeline_message.specs.declared.message.Place.{Place}
+use Rattle.pipeline_message.specs.Items.{IsRecordAt, record_at}
+use Rattle.json_output.specs.Printed.{records_text}
+use Rattle.stage_chain.proofs.LeftLemmas.{first_place}
+use Rattle.text_forms.proofs.LineLemmas.{json_more}
+use Rattle.text_forms.proofs.line.put_json.Goals as goal
+
+pub loop-place-preserved : goal.loop-place-preserved
+loop-place-preserved c =
+    let def = c.args.def.now in
+    let octets = c.args.octets.now in
+    let all = c.args.places.now in
+    let i = c.loop-place.place-index in
+    let d : Place = record { start = 0; len = 0 } in
+    let lt = c.loop-place-test.true in
+    record {
+      text = λ options table s.
+          (json_more options table def octets (take i all) (get_or all i d) c.octets_at.result.now c.args.lines.now c.loop-place.lines c.put_record.new.lines (c.loop-place.invariant.text options table s) c.octets_at.ensures
+          (c.in_ok-put_record.ensures.ok options table s) ∙ ap (λ (l : List Place). c.args.lines.now ++ records_text options table def (map (record_at def.fields octets) l)) (sym (take_more all i d lt)));
+      sound = (first_place (IsRecordAt def.fields octets) all i d lt c.loop-place.invariant.sound).1;
+    }
