@@ -1,0 +1,58 @@
+"""What is asked of flows, and the answers. They are worked out in a database (database.py) or by sums (sums.py)."""
+
+import dataclasses
+import json
+from typing import NamedTuple
+
+# Steps of time that people read well, in seconds: from a second to a year of 365 days.
+STEPS = (1, 5, 10, 30, 60, 300, 900, 3600, 4 * 3600, 86400, 7 * 86400, 30 * 86400, 365 * 86400)
+MOST_STEPS = 120
+TOP = 10
+
+
+class Totals(NamedTuple):
+    """All flows together."""
+
+    flows: int
+    options: int
+    """Options records, which are no flows."""
+    octets: int
+    packets: int
+    first: int | None
+    """The first start of a flow, in milliseconds since 1970."""
+    last: int | None
+    """The last start of a flow."""
+
+
+@dataclasses.dataclass
+class Answers:
+    """The answers. A flow counts in each table that it has the element for."""
+
+    totals: Totals
+    step: int
+    """The step of `traffic` in seconds."""
+    sources: list
+    """The addresses that sent most: (address, octets, packets, flows)."""
+    destinations: list
+    """The addresses that most was sent to: (address, octets, packets, flows)."""
+    services: list
+    """The services of most traffic: (lower port, protocol, octets, packets, flows)."""
+    protocols: list
+    """All protocols: (protocol, octets, packets, flows)."""
+    sizes: list
+    """Flows by their size: (decimal digits of their octets, octets, packets, flows)."""
+    traffic: list
+    """What began in each step that has a flow: (seconds since 1970, octets, packets, flows)."""
+
+    def to_json(self):
+        return json.dumps({**dataclasses.asdict(self), "totals": self.totals._asdict()}, indent=1) + "\n"
+
+
+def step_for(first, last):
+    """The least step of at least a minute with which few enough rows come, for times in milliseconds."""
+    if first is None:
+        return 60
+    for step in STEPS:
+        if step >= 60 and last // (1000 * step) - first // (1000 * step) < MOST_STEPS:
+            return step
+    return STEPS[-1]
