@@ -1,7 +1,8 @@
 """An archive of IPFIX Files as tasks of a Dask cluster: a file a task, and then a block of lines a task.
 
-The tasks take and give plain values, and are sent to the workers by value: a worker needs Dask alone, the program, and
-the folders under the same paths. A fault comes back as a value, so that all of them can be told.
+Tasks take and give plain values, and a fault comes back as one, so that all of them can be told. To workers that we
+didn't start the code of the tasks is sent by value, with what it calls: they need Dask alone, the program, and the
+folders under the same paths. So what it calls has no dataclass and no named tuple, which don't bear it.
 """
 
 import contextlib
@@ -10,32 +11,18 @@ import pathlib
 import secrets
 import subprocess
 import sys
-from typing import NamedTuple
 
 import cloudpickle
 import dask
 import distributed
 
 from . import lines, outputs, sums
+from .answers import answers_of
 from .faults import Fault
 
 BLOCK = 32 * 2**20
 # How many sums are added by one task.
 TOGETHER = 8
-PATIENCE = 30
-
-
-class File(NamedTuple):
-    """A file of lines that is there, whole."""
-
-    path: str
-    octets: int
-
-
-class Failed(NamedTuple):
-    """A task that came to a fault."""
-
-    why: str
 
 
 def program_path(given):
@@ -65,11 +52,11 @@ def convert(program, source, target, run):
     try:
         if not is_done(source, target):
             write_lines(program, source, target, run)
-        return File(target, os.stat(target).st_size)
+        return {"octets": os.stat(target).st_size}
     except Fault as fault:
-        return Failed(str(fault))
+        return failed(fault)
     except OSError as error:
-        return Failed(f"{error.filename or source}: {error.strerror}")
+        return failed(f"{error.filename or source}: {error.strerror}")
 
 
 def write_lines(program, source, target, run):
@@ -103,18 +90,19 @@ def sum_block(path, start, size, step):
     try:
         return sums.sums_of(lines.block_records(path, start, size), step)
     except Fault as fault:
-        return Failed(str(fault))
+        return failed(fault)
     except OSError as error:
-        return Failed(f"{path}: {error.strerror}")
+        return failed(f"{path}: {error.strerror}")
 
 
 def add_sums(parts):
     """The sums of parts; of parts that failed the first fault."""
-    return next((part for part in parts if is_failed(part)), None) or sums.together(parts)
+    return next((part for part in parts if "fault" in part), None) or sums.together(parts)
 
 
-def is_failed(result):
-    return hasattr(result, "why")
+def failed(why):
+    """What a task gives that came to a fault."""
+    return {"fault": str(why)}
 
 
 @contextlib.contextmanager
@@ -123,23 +111,26 @@ def local_cluster(workers, memory):
     with outputs.scratch() as folder:
         dask.config.set({"temporary-directory": folder})
         with distributed.LocalCluster(
-            n_workers=workers or 1, threads_per_worker=1, processes=workers > 0, memory_limit=memory, host="127.0.0.1",
-            dashboard_address=None, local_directory=folder,
+            n_workers=workers or 1, threads_per_worker=1, processes=workers > 0, memory_limit=memory,
+            host="127.0.0.1" if workers else None, dashboard_address=None, local_directory=folder,
         ) as cluster, distributed.Client(cluster) as client:
             yield client
 
 
 @contextlib.contextmanager
-def remote_cluster(scheduler):
+def remote_cluster(scheduler, patience):
     """A client of a cluster that runs already."""
     try:
-        client = distributed.Client(scheduler, timeout=PATIENCE)
+        client = distributed.Client(scheduler, timeout=patience)
     except (OSError, ValueError) as error:
         raise Fault(f"{scheduler}: no scheduler answers there: {error}") from None
+    # The package for what the tasks call, and this module by its name, which is all that Dask looks at.
+    for module in (__package__, __name__):
+        cloudpickle.register_pickle_by_value(sys.modules[module])
     with client:
         try:
-            client.wait_for_workers(1, timeout=PATIENCE)
-        except (TimeoutError, dask.distributed.TimeoutError):
+            client.wait_for_workers(1, timeout=patience)
+        except (TimeoutError, distributed.TimeoutError):
             raise Fault(f"{scheduler}: this cluster has no workers") from None
         yield client
 
@@ -159,27 +150,28 @@ def result_of(future, name):
     if future.status == "finished":
         return future.result()
     if future.status == "error":
-        return Failed(f"{name}: {future.exception()}")
-    return Failed(f"{name}: the scheduler went away ({future.status})")
+        return failed(f"{name}: {future.exception()}")
+    return failed(f"{name}: the scheduler went away ({future.status})")
 
 
 def whole(results):
     """The results, where none failed."""
-    failed = [result.why for result in results if is_failed(result)]
-    if failed:
-        raise Fault("\n".join(failed))
+    faults = [result["fault"] for result in results if "fault" in result]
+    if faults:
+        raise Fault("\n".join(faults))
     return results
 
 
 def converted(client, program, pairs, shows):
-    """The files of lines of IPFIX Files, which are given as pairs of paths."""
+    """Turns IPFIX Files into lines, each as a pair of paths, and returns how many octets of lines each has."""
     run = secrets.token_hex(4)
     sources, targets = zip(*pairs)
     many = len(pairs)
     try:
         futures = client.map(convert, [program] * many, sources, targets, [run] * many, pure=False)
         awaited(futures, "IPFIX Files to lines", shows)
-        return whole([result_of(future, source) for future, source in zip(futures, sources)])
+        results = whole([result_of(future, source) for future, source in zip(futures, sources)])
+        return [result["octets"] for result in results]
     finally:
         # what a worker that died had begun
         for folder in {os.path.dirname(target) for target in targets}:
@@ -188,8 +180,8 @@ def converted(client, program, pairs, shows):
 
 
 def added(client, files, step, block, shows):
-    """The sums of all lines, block by block."""
-    names = [(file.path, start, size, step) for file in files for start, size in lines.blocks(file.octets, block)]
+    """The sums of all lines, block by block, of files with their octets."""
+    names = [(path, start, size, step) for path, octets in files for start, size in lines.blocks(octets, block)]
     if not names:
         raise Fault("none of the files has a record")
     parts = futures = client.map(sum_block, *map(list, zip(*names)), pure=False)
@@ -215,6 +207,6 @@ def pairs_of(archive, target):
 
 def answered(client, program, archive, target, top, step, block=BLOCK, shows=False):
     """Turns an archive into lines, and answers by all of them."""
-    cloudpickle.register_pickle_by_value(sys.modules[__package__])
-    files = converted(client, program, pairs_of(archive, target), shows)
-    return sums.answers_of(added(client, files, step, block, shows), top, step)
+    pairs = pairs_of(archive, target)
+    octets = converted(client, program, pairs, shows)
+    return answers_of(added(client, zip((path for _, path in pairs), octets), step, block, shows), top, step)

@@ -18,8 +18,8 @@ QUERIES = HERE.parent / "queries"
 APPLICATION = int.from_bytes(b"IPFX", "big")
 VERSION = 1
 INSERT_FLOW = (
-    "INSERT INTO flow (source, destination, source_port, destination_port, protocol, octets, packets, started, ended,"
-    " loaded) VALUES (?, ?, ?, ?, ?, ?, ?, ?, ?, ?)"
+    "INSERT INTO flow (source, destination, source_port, destination_port, service_port, protocol, octets, packets,"
+    " started, ended, loaded) VALUES (?1, ?2, ?3, ?4, min(?3, ?4), ?5, ?6, ?7, ?8, ?9, ?10)"
 )
 MANY = 10_000
 
@@ -29,10 +29,11 @@ def statements(name):
 
 
 @contextlib.contextmanager
-def told(name):
-    """Faults of the database as ours."""
+def connected(path, name, **options):
+    """A connection. What goes wrong with the database is a fault of this name."""
     try:
-        yield
+        with contextlib.closing(sqlite3.connect(path, isolation_level=None, **options)) as connection:
+            yield connection
     except sqlite3.Error as error:
         raise Fault(f"{name}: {error}") from None
 
@@ -59,7 +60,7 @@ def insert(connection, name):
         hashed = Hashed(file)
         for record in lines.records(hashed, name):
             if type(record) is Options:
-                connection.execute("INSERT INTO options_record VALUES (?, ?)", (record.record, loaded))
+                connection.execute("INSERT INTO options_record VALUES (?, ?)", (str(record), loaded))
                 options += 1
                 continue
             many.append((*record, loaded))
@@ -76,11 +77,10 @@ def insert(connection, name):
     return flows, options
 
 
-def checked(connection, path):
+def check(connection, path):
     """Refuses a database that isn't ours."""
-    with told(path):
-        application = connection.execute("PRAGMA application_id").fetchone()[0]
-        version = connection.execute("PRAGMA user_version").fetchone()[0]
+    application = connection.execute("PRAGMA application_id").fetchone()[0]
+    version = connection.execute("PRAGMA user_version").fetchone()[0]
     if application != APPLICATION:
         raise Fault(f"{path}: no database of flows")
     if version != VERSION:
@@ -89,37 +89,31 @@ def checked(connection, path):
 
 def load_new(path, names):
     """Makes a database. Where something goes wrong there is none."""
-    with replacing(path) as beside, contextlib.closing(sqlite3.connect(beside, isolation_level=None)) as connection:
-        with told(path):
-            # nobody reads it before it is whole, and a part is thrown away
-            connection.execute("PRAGMA journal_mode = OFF")
-            connection.execute("PRAGMA synchronous = OFF")
-            connection.execute("PRAGMA cache_size = -262144")
-            connection.execute("PRAGMA threads = 2")
-            connection.executescript(statements("schema.sql"))
-            connection.execute(f"PRAGMA application_id = {APPLICATION}")
-            connection.execute(f"PRAGMA user_version = {VERSION}")
-            connection.execute("BEGIN")
-            counts = [insert(connection, name) for name in names]
-            connection.execute("COMMIT")
-            connection.executescript(statements("indexes.sql"))
-            connection.execute("PRAGMA analysis_limit = 1000")
-            connection.execute("ANALYZE")
+    with replacing(path) as beside, connected(beside, path) as connection:
+        # nobody reads it before it is whole, and a part is thrown away
+        connection.execute("PRAGMA journal_mode = OFF")
+        connection.execute("PRAGMA synchronous = OFF")
+        connection.execute("PRAGMA cache_size = -262144")
+        connection.executescript(statements("schema.sql"))
+        connection.execute(f"PRAGMA application_id = {APPLICATION}")
+        connection.execute(f"PRAGMA user_version = {VERSION}")
+        connection.execute("BEGIN")
+        counts = [insert(connection, name) for name in names]
+        connection.execute("COMMIT")
+        connection.executescript(statements("indexes.sql"))
+        connection.execute("PRAGMA analysis_limit = 1000")
+        connection.execute("ANALYZE")
     return counts
 
 
 def load_more(path, names):
     """Adds to a database, all of it or nothing."""
-    with contextlib.closing(sqlite3.connect(path, isolation_level=None)) as connection:
-        checked(connection, path)
-        with told(path):
-            connection.execute("BEGIN IMMEDIATE")
-            try:
-                counts = [insert(connection, name) for name in names]
-                connection.execute("COMMIT")
-            finally:
-                if connection.in_transaction:
-                    connection.execute("ROLLBACK")
+    with connected(path, path) as connection:
+        check(connection, path)
+        connection.execute("BEGIN IMMEDIATE")
+        # a connection that is closed within a transaction undoes it
+        counts = [insert(connection, name) for name in names]
+        connection.execute("COMMIT")
     return counts
 
 
@@ -139,18 +133,17 @@ def ask(path, top=TOP, step=None):
     """The answers out of a database."""
     if not os.path.exists(path):
         raise Fault(f"{path}: no such file")
-    with contextlib.closing(sqlite3.connect(f"{pathlib.Path(path).absolute().as_uri()}?mode=ro", uri=True)) as connection:
-        checked(connection, path)
-        with told(path):
-            totals = Totals(*asked(connection, "totals")[0])
-            step = step or step_for(totals.first, totals.last)
-            return Answers(
-                totals=totals,
-                step=step,
-                sources=asked(connection, "sources", top=top),
-                destinations=asked(connection, "destinations", top=top),
-                services=asked(connection, "services", top=top),
-                protocols=asked(connection, "protocols"),
-                sizes=asked(connection, "sizes"),
-                traffic=asked(connection, "traffic", step=step),
-            )
+    with connected(pathlib.Path(path).absolute().as_uri() + "?mode=ro", path, uri=True) as connection:
+        check(connection, path)
+        totals = Totals(*asked(connection, "totals")[0])
+        step = step or step_for(totals.first, totals.last)
+        return Answers(
+            totals=totals,
+            step=step,
+            sources=asked(connection, "sources", top=top),
+            destinations=asked(connection, "destinations", top=top),
+            services=asked(connection, "services", top=top),
+            protocols=asked(connection, "protocols"),
+            sizes=asked(connection, "sizes"),
+            traffic=asked(connection, "traffic", step=step),
+        )

@@ -9,7 +9,6 @@ import json
 import socket
 import sys
 import zlib
-from typing import NamedTuple
 
 from .faults import Fault
 
@@ -28,27 +27,13 @@ STARTED = tuple("iana:flowStart" + unit for unit in ("Milliseconds", "Seconds", 
 ENDED = tuple("iana:flowEnd" + unit for unit in ("Milliseconds", "Seconds", "Microseconds", "Nanoseconds"))
 
 
-class Flow(NamedTuple):
-    """A data record. What the record doesn't have is None."""
-
-    source: str | None
-    destination: str | None
-    source_port: int | None
-    destination_port: int | None
-    protocol: int | None
-    octets: int | None
-    packets: int | None
-    started: int | None
-    """Milliseconds since 1970."""
-    ended: int | None
-    """Milliseconds since 1970."""
+# What stands in the tuple of a flow, which is a data record. What the record doesn't have is None; times are in
+# milliseconds since 1970.
+COLUMNS = ("source", "destination", "source_port", "destination_port", "protocol", "octets", "packets", "started", "ended")
 
 
-class Options(NamedTuple):
-    """An options record, which says something of the exporter and is no flow."""
-
-    record: str
-    """Its line, without the line feed."""
+class Options(str):
+    """An options record, which says something of the exporter and is no flow: its line, without the line feed."""
 
 
 class Unlike(Exception):
@@ -64,13 +49,11 @@ def shown(value):
 def number(record, names, most):
     """The first of these elements that is there."""
     for name in names:
-        value = record.get(name)
-        if value is not None:
+        if name in record:
+            value = record[name]
             if type(value) is int and 0 <= value <= most:
                 return value
             raise Unlike(f"{name} is {shown(value)}, and not one number from 0 to {most}")
-        if name in record:
-            raise Unlike(f"{name} is null")
     return None
 
 
@@ -86,17 +69,19 @@ class Reader:
     """Reads lines; it remembers the addresses that it has seen to be addresses."""
 
     def __init__(self):
-        self.known = set()
+        self.known = {socket.AF_INET: set(), socket.AF_INET6: set()}
 
     def address(self, record, choices):
         """The first of these elements that is there."""
         for name, family in choices:
-            value = record.get(name)
-            if value is not None:
-                if type(value) is not str or (family, value) not in self.known:
-                    if type(value) is not str or not has_form(family, value):
-                        raise Unlike(f"{name} is {shown(value)}, and not one address")
-                    self.known.add((family, value))
+            if name in record:
+                value = record[name]
+                if type(value) is not str:
+                    raise Unlike(f"{name} is {shown(value)}, and not one address")
+                if value not in self.known[family]:
+                    if not has_form(family, value):
+                        raise Unlike(f"{name} is {shown(value)}, and not an address of its kind")
+                    self.known[family].add(value)
                 return value
         return None
 
@@ -110,7 +95,7 @@ class Reader:
             raise Unlike("not JSON" if whole else "cut: the file ends within it") from None
         kind = record.get("@type") if type(record) is dict else None
         if kind == "ipfix.entry":
-            return Flow(
+            return (
                 self.address(record, SOURCE),
                 self.address(record, DESTINATION),
                 number(record, SOURCE_PORT, 65535),

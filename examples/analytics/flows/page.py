@@ -46,9 +46,13 @@ summary { cursor: pointer; color: #2563a8; }
 """
 
 
+# The last time that an axis shows; calendars end with the year 9999, and axes need room.
+LAST = datetime.datetime(9000, 1, 1, tzinfo=datetime.timezone.utc).timestamp()
+
+
 def instant(seconds):
-    """A time for an axis; what a calendar doesn't have is cut to its ends."""
-    return datetime.datetime.fromtimestamp(min(max(seconds, 0), 253402300799), datetime.timezone.utc)
+    """A time for an axis."""
+    return datetime.datetime.fromtimestamp(min(seconds, LAST), datetime.timezone.utc)
 
 
 def figure(height, width=5.6):

@@ -12,14 +12,13 @@ CREATE TABLE flow (
     destination TEXT,
     source_port INTEGER CHECK (source_port BETWEEN 0 AND 65535),
     destination_port INTEGER CHECK (destination_port BETWEEN 0 AND 65535),
+    service_port INTEGER CHECK (service_port IS min(source_port, destination_port)), -- most often that of the service
     protocol INTEGER CHECK (protocol BETWEEN 0 AND 255),
     octets INTEGER CHECK (octets >= 0),
     packets INTEGER CHECK (packets >= 0),
     started INTEGER CHECK (started >= 0),
     ended INTEGER CHECK (ended >= 0),
-    loaded INTEGER NOT NULL REFERENCES loaded (id),
-    -- the lower port is most often that of the service
-    service_port INTEGER AS (min(source_port, destination_port)) VIRTUAL
+    loaded INTEGER NOT NULL REFERENCES loaded (id)
 ) STRICT;
 
 -- options records, which say something of the exporter: their lines

@@ -1,9 +1,8 @@
 """Sums over flows that can be made block by block, and added in any order."""
 
-from .answers import TOP, Answers, Totals, step_for
 from .lines import Options
 
-# The step in which traffic is kept where none is asked for; `step_for` gives multiples of it.
+# The step in which traffic is kept where none is asked for: those that are chosen later are multiples of it.
 BASE_STEP = 60
 
 TABLES = ("sources", "destinations", "services", "protocols", "sizes", "traffic")
@@ -81,35 +80,3 @@ def together(parts):
                 row[1] += packets
                 row[2] += flows
     return whole
-
-
-def most(table, top):
-    """The rows of the most octets, of equals those of the least key first."""
-    rows = sorted(table.items(), key=lambda row: (-row[1][0], row[0]))
-    return [(*(key if type(key) is tuple else (key,)), *amount) for key, amount in rows[:top]]
-
-
-def by_key(table):
-    return [(key, *amount) for key, amount in sorted(table.items())]
-
-
-def answers_of(sums, top=TOP, step=None):
-    """The answers. The step is a multiple of that of the sums."""
-    totals = Totals(**sums["totals"])
-    step = step or step_for(totals.first, totals.last)
-    traffic = {}
-    for at, (octets, packets, flows) in sums["traffic"].items():
-        row = traffic.setdefault(at * sums["step"] // step * step, [0, 0, 0])
-        row[0] += octets
-        row[1] += packets
-        row[2] += flows
-    return Answers(
-        totals=totals,
-        step=step,
-        sources=most(sums["sources"], top),
-        destinations=most(sums["destinations"], top),
-        services=most(sums["services"], top),
-        protocols=most(sums["protocols"], None),
-        sizes=by_key(sums["sizes"]),
-        traffic=by_key(traffic),
-    )
