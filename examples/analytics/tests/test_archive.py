@@ -1,7 +1,9 @@
 """An archive on a cluster: the same figures on one process, on four workers, and where a worker dies."""
 
+import contextlib
 import json
 import os
+import pty
 import shutil
 import signal
 import subprocess
@@ -99,6 +101,23 @@ def test_only_new_and_changed_files_are_turned_again(tmp_path, archive, logged, 
     os.utime(archive / NAMES[9])
     assert answered(*given) == sample_figures
     assert sorted(ended(log)) == [NAMES[5], NAMES[9]]
+
+
+def test_a_terminal_shows_how_far_it_is(tmp_path, program):
+    words = [FOLDER / "archive", "--program", program, "--workers", "1", "--json", "a.json", ARCHIVE, "lines"]
+    terminal, end = pty.openpty()
+    with subprocess.Popen(list(map(str, words)), cwd=tmp_path, stdout=subprocess.PIPE, stderr=end, text=True) as running:
+        os.close(end)
+        shown = b""
+        # the end of a terminal is an error
+        with contextlib.suppress(OSError):
+            while octets := os.read(terminal, 4096):
+                shown += octets
+        os.close(terminal)
+        assert running.stdout.read() == ""
+    assert running.returncode == 0
+    assert b"IPFIX Files to lines (24)" in shown and b"blocks of 32 MiB summed (24)" in shown
+    assert shown.count(b"100% Completed") >= 2
 
 
 @pytest.fixture
