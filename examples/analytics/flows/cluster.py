@@ -5,7 +5,9 @@ didn't start the code of the tasks is sent by value, with what it calls: they ne
 folders under the same paths. So what it calls has no dataclass and no named tuple, which don't bear it.
 """
 
+import concurrent.futures
 import contextlib
+import logging
 import os
 import pathlib
 import secrets
@@ -109,7 +111,8 @@ def failed(why):
 def local_cluster(workers, memory):
     """A client of a cluster of processes of this machine, or of this process alone where there are to be no workers."""
     with outputs.scratch() as folder:
-        dask.config.set({"temporary-directory": folder})
+        # A worker has no files but those that it is at: so no others are blamed where it dies.
+        dask.config.set({"temporary-directory": folder, "distributed.scheduler.worker-saturation": 1.0})
         with distributed.LocalCluster(
             n_workers=workers or 1, threads_per_worker=1, processes=workers > 0, memory_limit=memory,
             host="127.0.0.1" if workers else None, dashboard_address=None, local_directory=folder,
@@ -120,6 +123,9 @@ def local_cluster(workers, memory):
 @contextlib.contextmanager
 def remote_cluster(scheduler, patience):
     """A client of a cluster that runs already."""
+    # what they say of a scheduler that went away we say in a line
+    for name in ("distributed.client", "distributed.utils", "asyncio"):
+        logging.getLogger(name).setLevel(logging.CRITICAL)
     try:
         client = distributed.Client(scheduler, timeout=patience)
     except (OSError, ValueError) as error:
@@ -137,21 +143,25 @@ def remote_cluster(scheduler, patience):
 
 def awaited(futures, title, shows):
     """Waits for tasks, with a bar that shows how many are done."""
-    if shows and futures:
-        with contextlib.redirect_stdout(sys.stderr):
-            print(f"{title} ({len(futures)})")
-            distributed.progress(futures, notebook=False)
-            print()
-    distributed.wait(futures)
+    try:
+        if shows and futures:
+            with contextlib.redirect_stdout(sys.stderr):
+                print(f"{title} ({len(futures)})")
+                distributed.progress(futures, notebook=False)
+                print()
+        distributed.wait(futures)
+    except concurrent.futures.CancelledError:
+        raise Fault("the scheduler went away; lines that are whole stay, and the next run goes on from there") from None
 
 
 def result_of(future, name):
-    """The result of a task; of one that failed, or that was lost, the reason."""
-    if future.status == "finished":
+    """The result of a task."""
+    if future.status != "error":
         return future.result()
-    if future.status == "error":
-        return failed(f"{name}: {future.exception()}")
-    return failed(f"{name}: the scheduler went away ({future.status})")
+    error = future.exception()
+    if isinstance(error, distributed.scheduler.KilledWorker):
+        return failed(f"{name}: several workers died, one after the other, while they had it")
+    return failed(f"{name}: {error}")
 
 
 def whole(results):
@@ -190,7 +200,7 @@ def added(client, files, step, block, shows):
             client.submit(add_sums, parts[at : at + TOGETHER], pure=False) for at in range(0, len(parts), TOGETHER)
         ]
     awaited(futures, f"blocks of {block / 2**20:g} MiB summed", shows)
-    distributed.wait(parts)
+    awaited(parts, "", False)
     return whole([result_of(parts[0], "sums")])[0]
 
 

@@ -144,7 +144,7 @@ def scheduler(tmp_path):
         words = ["--no-nanny", "--nthreads", "1", "--memory-limit", "400MB", "--local-directory", str(tmp_path / "space")]
         return started(f"worker{place}", "dask-worker", address, "--host", "127.0.0.1", *words)
 
-    yield address, worker
+    yield address, worker, processes[0]
     for process in reversed(processes):
         process.terminate()
     for process in processes:
@@ -160,7 +160,7 @@ def wait_for(condition, seconds=60):
 
 
 def test_a_worker_that_dies_has_its_files_done_by_others(tmp_path, scheduler, logged, sample_figures, sample_lines):
-    address, worker = scheduler
+    address, worker, _ = scheduler
     path, log = logged(before="sleep 0.4")
     workers = [worker(place) for place in range(4)]
     words = [FOLDER / "archive", "--program", path, "--scheduler", address, *STEP, "--json", "a.json", ARCHIVE, "lines"]
@@ -189,13 +189,28 @@ def test_a_worker_that_dies_has_its_files_done_by_others(tmp_path, scheduler, lo
     assert sorted(path.name for path in (tmp_path / "lines").iterdir()) == [name + ".json" for name in NAMES]
 
 
+def test_a_scheduler_that_dies_is_told(tmp_path, scheduler, logged):
+    address, worker, process = scheduler
+    path, log = logged(before="sleep 0.4")
+    worker(0)
+    words = [FOLDER / "archive", "--program", path, "--scheduler", address, "--json", "a.json", ARCHIVE, "lines"]
+    running = subprocess.Popen(list(map(str, words)), cwd=tmp_path, stderr=subprocess.PIPE, text=True)
+    wait_for(lambda: ended(log))
+    process.kill()
+    said = running.communicate(timeout=120)[1]
+    assert running.returncode == 1 and "Traceback" not in said, said
+    assert said.splitlines()[-1].startswith("the scheduler went away")
+    assert not (tmp_path / "a.json").exists()
+
+
 def test_a_file_that_ends_every_worker_is_told(tmp_path, archive):
     path = tmp_path / "program"
     path.write_text('#!/bin/bash\n[ "$(basename "$2")" = flows-00-07.ipfix ] && kill -KILL $PPID; cp "$2" "$3"\n')
     path.chmod(0o755)
     ran = run("archive", "--program", path, "--workers", 2, "--json", "a.json", archive, "lines", cwd=tmp_path)
     assert ran.returncode == 1
-    assert "flows-00-07.ipfix: " in ran.stderr.splitlines()[-1] and "died" in ran.stderr.splitlines()[-1]
+    told = [line for line in ran.stderr.splitlines() if line.startswith(str(archive))]
+    assert told == [f"{archive}/flows-00-07.ipfix: several workers died, one after the other, while they had it"]
     assert not (tmp_path / "a.json").exists()
     assert not [path for path in (tmp_path / "lines").iterdir() if path.name.endswith(".part")]
 
