@@ -144,9 +144,9 @@ def remote_cluster(scheduler, patience):
 def awaited(futures, title, shows):
     """Waits for tasks, with a bar that shows how many are done."""
     try:
-        if shows and futures:
+        if shows:
             with contextlib.redirect_stdout(sys.stderr):
-                print(f"{title} ({len(futures)})")
+                print(title)
                 distributed.progress(futures, notebook=False)
                 print()
         distributed.wait(futures)
@@ -179,7 +179,7 @@ def converted(client, program, pairs, shows):
     many = len(pairs)
     try:
         futures = client.map(convert, [program] * many, sources, targets, [run] * many, pure=False)
-        awaited(futures, "IPFIX Files to lines", shows)
+        awaited(futures, f"IPFIX Files to lines ({many})", shows)
         results = whole([result_of(future, source) for future, source in zip(futures, sources)])
         return [result["octets"] for result in results]
     finally:
@@ -190,18 +190,17 @@ def converted(client, program, pairs, shows):
 
 
 def added(client, files, step, block, shows):
-    """The sums of all lines, block by block, of files with their octets."""
+    """The sums of all lines, block by block, of files with their octets. The tasks are one graph, which Dask walks in
+    depth: so sums are added soon, and few are held at a time."""
     names = [(path, start, size, step) for path, octets in files for start, size in lines.blocks(octets, block)]
     if not names:
         raise Fault("none of the files has a record")
-    parts = futures = client.map(sum_block, *map(list, zip(*names)), pure=False)
+    parts = [dask.delayed(sum_block)(*name) for name in names]
     while len(parts) > 1:
-        parts = [
-            client.submit(add_sums, parts[at : at + TOGETHER], pure=False) for at in range(0, len(parts), TOGETHER)
-        ]
-    awaited(futures, f"blocks of {block / 2**20:g} MiB summed", shows)
-    awaited(parts, "", False)
-    return whole([result_of(parts[0], "sums")])[0]
+        parts = [dask.delayed(add_sums)(parts[at : at + TOGETHER]) for at in range(0, len(parts), TOGETHER)]
+    future = client.compute(parts[0])
+    awaited([future], f"blocks of {block / 2**20:g} MiB to sums ({len(names)})", shows)
+    return whole([result_of(future, "sums")])[0]
 
 
 def pairs_of(archive, target):

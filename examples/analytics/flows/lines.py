@@ -29,7 +29,9 @@ ENDED = tuple("iana:flowEnd" + unit for unit in ("Milliseconds", "Seconds", "Mic
 
 # What stands in the tuple of a flow, which is a data record. What the record doesn't have is None; times are in
 # milliseconds since 1970.
-COLUMNS = ("source", "destination", "source_port", "destination_port", "protocol", "octets", "packets", "started", "ended")
+COLUMNS = (
+    "source", "destination", "source_port", "destination_port", "protocol", "octets", "packets", "started", "ended",
+)
 
 
 class Options(str):

@@ -136,10 +136,10 @@ def image(made, about):
 def table(key, heads, rows):
     """A table, with each amount of it in full."""
     head = "".join(f'<th scope="col">{html.escape(text)}</th>' for text in heads)
-    body = "".join(
-        f'<tr><th scope="row">{html.escape(first)}</th>' + "".join(f"<td>{amount:,}</td>" for amount in amounts) + "</tr>\n"
-        for first, *amounts in rows
-    )
+    body = ""
+    for first, *amounts in rows:
+        cells = "".join(f"<td>{amount:,}</td>" for amount in amounts)
+        body += f'<tr><th scope="row">{html.escape(first)}</th>{cells}</tr>\n'
     return f'<table id="{key}"><thead><tr>{head}</tr></thead>\n<tbody>\n{body}</tbody></table>'
 
 

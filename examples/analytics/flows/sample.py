@@ -138,7 +138,8 @@ def line_of(flow):
     kind = f"IPv{flow.version}Address"
     ports = ""
     if flow.source_port is not None:
-        ports = f'"iana:sourceTransportPort":{flow.source_port},"iana:destinationTransportPort":{flow.destination_port},'
+        ports = f'"iana:sourceTransportPort":{flow.source_port},'
+        ports += f'"iana:destinationTransportPort":{flow.destination_port},'
     return (
         f'{{"@type":"ipfix.entry","iana:source{kind}":"{address(flow.version, flow.source)}",'
         f'"iana:destination{kind}":"{address(flow.version, flow.destination)}",'

@@ -26,7 +26,7 @@ def udp_in_fragments(source, source_port, destination, destination_port, payload
     """The same in fragments of IPv4."""
     whole = struct.pack(">HHHH", source_port, destination_port, 8 + len(payload), 0) + payload
     return [
-        internet(source, destination, 17, whole[at : at + size], 77, (0x2000 if at + size < len(whole) else 0) | at // 8)
+        internet(source, destination, 17, whole[at : at + size], 77, 0x2000 * (at + size < len(whole)) | at // 8)
         for at in range(0, len(whole), size)
     ]
 
@@ -39,7 +39,8 @@ def tcp(source, source_port, destination, destination_port, sequence, payload, f
 
 
 def sctp(source, source_port, destination, destination_port, chunks):
-    """Data chunks, each as (TSN, number of the message, flags, payload): 3 is a whole message, 2 begins one, 1 ends it."""
+    """Data chunks, each as (TSN, number of the message, flags, payload): of flags 3 is a whole message, 2 begins one, and
+    1 ends it."""
     body = b""
     for tsn, number, flags, payload in chunks:
         chunk = struct.pack(">BBHIHHI", 0, flags, 16 + len(payload), tsn, 0, number, 0) + payload

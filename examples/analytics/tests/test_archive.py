@@ -74,7 +74,8 @@ def test_one_process_gives_the_figures(tmp_path, program, database, sample_figur
 def test_four_workers_give_the_figures(tmp_path, program, sample_figures):
     # blocks of a few lines, so that files are cut at every place of a line
     found = answered(
-        "--program", program, "--workers", 4, "--block", 20011, *STEP, "--page", "page.html", ARCHIVE, "lines", cwd=tmp_path
+        "--program", program, "--workers", 4, "--block", 20011, *STEP, "--page", "page.html", ARCHIVE, "lines",
+        cwd=tmp_path,
     )
     assert found == sample_figures
     assert sorted(path.name for path in tmp_path.iterdir()) == ["lines", "page.html"]
@@ -116,7 +117,7 @@ def test_a_terminal_shows_how_far_it_is(tmp_path, program):
         os.close(terminal)
         assert running.stdout.read() == ""
     assert running.returncode == 0
-    assert b"IPFIX Files to lines (24)" in shown and b"blocks of 32 MiB summed (24)" in shown
+    assert b"IPFIX Files to lines (24)" in shown and b"blocks of 32 MiB to sums (24)" in shown
     assert shown.count(b"100% Completed") >= 2
 
 
@@ -130,7 +131,8 @@ def scheduler(tmp_path):
     def started(name, *words):
         with open(tmp_path / f"{name}.log", "wb") as log:
             process = subprocess.Popen(
-                [*words, "--no-dashboard"], cwd=tmp_path, stdout=log, stderr=log, stdin=subprocess.DEVNULL, env=environment
+                [*words, "--no-dashboard"], cwd=tmp_path, env=environment, stdout=log, stderr=log,
+                stdin=subprocess.DEVNULL,
             )
         processes.append(process)
         return process
@@ -141,7 +143,8 @@ def scheduler(tmp_path):
     address = json.loads(file.read_text())["address"]
 
     def worker(place):
-        words = ["--no-nanny", "--nthreads", "1", "--memory-limit", "400MB", "--local-directory", str(tmp_path / "space")]
+        words = ["--no-nanny", "--nthreads", "1", "--memory-limit", "400MB"]
+        words += ["--local-directory", str(tmp_path / "space")]
         return started(f"worker{place}", "dask-worker", address, "--host", "127.0.0.1", *words)
 
     yield address, worker, processes[0]
@@ -254,7 +257,8 @@ def test_a_file_without_records_counts_nothing(tmp_path, archive, program, sampl
     assert answered("--program", program, "--workers", 0, *STEP, archive, tmp_path / "lines") == sample_figures
     for name in NAMES:
         (archive / name).unlink()
-    refused(run("archive", "--program", program, "--workers", 0, archive, tmp_path / "lines"), "none of the files has a record")
+    ran = run("archive", "--program", program, "--workers", 0, archive, tmp_path / "lines")
+    refused(ran, "none of the files has a record")
 
 
 def test_what_is_not_there_is_told(tmp_path, archive, program):

@@ -165,7 +165,7 @@ def test_messages_of_sctp_are_taken(tmp_path):
 
 
 def test_the_sample_comes_back_from_a_capture(tmp_path, program):
-    """Files of the sample are sent by UDP and by TCP, each from a port of its own; either way their lines come back."""
+    """Files of the sample are sent by UDP and TCP, each from a port of its own; either way their lines come back."""
     archive = sorted((FOLDER / "sample" / "archive").iterdir())[::6]
     frames = []
     for place, path in enumerate(archive):
@@ -179,8 +179,8 @@ def test_the_sample_comes_back_from_a_capture(tmp_path, program):
     _, files = taken(tmp_path, frames)
     assert len(files) == 8
     counts = sample.counts_of(sample.FLOWS, sample.FILES)
-    flows = (sample.options_line() + "".join(map(sample.line_of, sample.flows_of(at, counts[at]))) for at in range(0, 24, 6))
-    lines = "".join(flows).encode()
+    flows = [sample.flows_of(place, counts[place]) for place in range(0, 24, 6)]
+    lines = "".join(sample.options_line() + "".join(map(sample.line_of, part)) for part in flows).encode()
     for transport, port in (("udp", 4000), ("tcp", 5000)):
         read = b""
         for place in range(4):
@@ -228,6 +228,7 @@ def test_bad_captures_are_told(tmp_path):
 def test_a_missing_tshark_is_told(tmp_path):
     (tmp_path / "all.pcap").write_bytes(capture([udp(EXPORTER, 4000, COLLECTOR, 4739, FLOW)]))
     ran = subprocess.run(
-        [COMMAND, tmp_path / "all.pcap", tmp_path / "out"], env={"PATH": str(tmp_path)}, capture_output=True, text=True, check=False
+        [COMMAND, tmp_path / "all.pcap", tmp_path / "out"], env={"PATH": str(tmp_path)}, capture_output=True, text=True,
+        check=False,
     )
     refused(ran, "tshark isn't installed")

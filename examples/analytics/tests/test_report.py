@@ -5,10 +5,9 @@ import html.parser
 import json
 import re
 import struct
-import subprocess
 
 import pytest
-from conftest import FOLDER, refused, run, wants
+from conftest import refused, run, wants
 from flows import words
 
 GOOD = '{"@type":"ipfix.entry","iana:sourceIPv4Address":"10.0.0.1","iana:octetDeltaCount":7}\n'
@@ -126,8 +125,9 @@ def test_several_files_make_one_page(tmp_path, sample_lines, answers):
         '{"@type":"ipfix.entry"}',
         '{"@type":"ipfix.options"}',
         '{"@type":"ipfix.entry","iana:flowStartMilliseconds":0,"iana:protocolIdentifier":0,"iana:octetDeltaCount":0}',
-        '{"@type":"ipfix.entry","iana:flowStartMilliseconds":9223372036854775807,"iana:octetDeltaCount":9223372036854775807}',
-        '{"@type":"ipfix.entry","iana:flowStartSeconds":0}\n{"@type":"ipfix.entry","iana:flowStartSeconds":9223372036854775807}',
+        '{"@type":"ipfix.entry","iana:flowStartSeconds":%d,"iana:octetDeltaCount":%d}' % (2**63 - 1, 2**63 - 1),
+        '{"@type":"ipfix.entry","iana:flowStartSeconds":0}\n'
+        '{"@type":"ipfix.entry","iana:flowStartSeconds":%d}' % (2**63 - 1),
     ],
 )
 def test_strange_records_have_a_page(tmp_path, line):
@@ -158,9 +158,7 @@ def test_a_page_that_can_not_be_written_is_told(tmp_path, lines_file):
 
 @wants("chromium")
 def test_a_browser_shows_the_figures_of_sqlite3(tmp_path, page, answers):
-    shown = subprocess.run(
-        [FOLDER / "picture", "--text", page, tmp_path / "page.txt"], capture_output=True, text=True, timeout=180, check=False
-    )
+    shown = run("picture", "--text", page, tmp_path / "page.txt")
     assert shown.returncode == 0, shown.stderr
     check(Page((tmp_path / "page.txt").read_text()), answers)
 

@@ -46,7 +46,8 @@ def test_sequence_numbers_and_lengths_are_right(sample_flows):
         at, records = 16, 0
         while at < len(octets):
             identifier, length = (int.from_bytes(octets[at + place : at + place + 2], "big") for place in (0, 2))
-            records += {256: (length - 4) // 41, 257: (length - 4) // 65, 258: (length - 4) // 37, 259: 1}.get(identifier, 0)
+            lengths = {256: 41, 257: 65, 258: 37, 259: length - 4}
+            records += (length - 4) // lengths.get(identifier, length)
             at += length
         sequence += records
     assert sequence == 501
