@@ -1,10 +1,10 @@
 #!/usr/bin/env bash
 # analytics.sh ARCHIVE [STEP..]: times the scripts of examples/analytics over an archive of IPFIX Files, as that of
-#     examples/analytics/make_sample --flows 10000000 --clients 20000 --servers 5000 --lines '' FOLDER
-# Steps are direct, load, ask, report, and workers1, workers2, workers4 of `archive`; without any all are taken. load and
-# report need what direct leaves, ask what load leaves. Each prints its seconds by the clock, its processor time and the
-# load of the machine. IPFIXCOL is the program, if it isn't at crates/ipfixcol/out/ipfixcol. What is written stands in
-# the folder SCRATCH, if it is given, and is removed else.
+# examples/analytics/make_sample --flows 10000000 --clients 20000 --servers 5000 --lines '' FOLDER
+# Steps are direct, load, ask, report, and workers1, workers2, workers4 of `archive`; without any all are taken. load
+# and report need what direct leaves, ask what load leaves. Each prints its seconds by the clock, its processor time and
+# the load of the machine. IPFIXCOL is the program, if it isn't at crates/ipfixcol/out/ipfixcol. What is written stands
+# in the folder SCRATCH, if it is given, and is removed else.
 set -eu
 here=$(cd "$(dirname "$0")/.." && pwd)
 scripts=$here/examples/analytics

@@ -39,8 +39,8 @@ def tcp(source, source_port, destination, destination_port, sequence, payload, f
 
 
 def sctp(source, source_port, destination, destination_port, chunks):
-    """Data chunks, each as (TSN, number of the message, flags, payload): of flags 3 is a whole message, 2 begins one, and
-    1 ends it."""
+    """Data chunks, each as (TSN, number of the message, flags, payload): a message has the flags 3, or a part with 2
+    begins it and one with 1 ends it."""
     body = b""
     for tsn, number, flags, payload in chunks:
         chunk = struct.pack(">BBHIHHI", 0, flags, 16 + len(payload), tsn, 0, number, 0) + payload

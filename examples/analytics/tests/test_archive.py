@@ -107,7 +107,7 @@ def test_only_new_and_changed_files_are_turned_again(tmp_path, archive, logged, 
 def test_a_terminal_shows_how_far_it_is(tmp_path, program):
     words = [FOLDER / "archive", "--program", program, "--workers", "1", "--json", "a.json", ARCHIVE, "lines"]
     terminal, end = pty.openpty()
-    with subprocess.Popen(list(map(str, words)), cwd=tmp_path, stdout=subprocess.PIPE, stderr=end, text=True) as running:
+    with subprocess.Popen(words, cwd=tmp_path, stdout=subprocess.PIPE, stderr=end, text=True) as running:
         os.close(end)
         shown = b""
         # the end of a terminal is an error
@@ -167,7 +167,7 @@ def test_a_worker_that_dies_has_its_files_done_by_others(tmp_path, scheduler, lo
     path, log = logged(before="sleep 0.4")
     workers = [worker(place) for place in range(4)]
     words = [FOLDER / "archive", "--program", path, "--scheduler", address, *STEP, "--json", "a.json", ARCHIVE, "lines"]
-    running = subprocess.Popen(list(map(str, words)), cwd=tmp_path, stderr=subprocess.PIPE, text=True)
+    running = subprocess.Popen(words, cwd=tmp_path, stderr=subprocess.PIPE, text=True)
 
     def victim():
         """A worker that has ended a file, and is in the middle of another."""
@@ -197,7 +197,7 @@ def test_a_scheduler_that_dies_is_told(tmp_path, scheduler, logged):
     path, log = logged(before="sleep 0.4")
     worker(0)
     words = [FOLDER / "archive", "--program", path, "--scheduler", address, "--json", "a.json", ARCHIVE, "lines"]
-    running = subprocess.Popen(list(map(str, words)), cwd=tmp_path, stderr=subprocess.PIPE, text=True)
+    running = subprocess.Popen(words, cwd=tmp_path, stderr=subprocess.PIPE, text=True)
     wait_for(lambda: ended(log))
     process.kill()
     said = running.communicate(timeout=120)[1]

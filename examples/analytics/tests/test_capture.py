@@ -149,7 +149,8 @@ def test_a_stream_that_was_joined_within_a_message_is_told(tmp_path):
     joined = segments(message(1, 900) + message(2), [(300, 956), (956, 1008)])
     ran, files = taken(tmp_path, whole + joined)
     assert files == {"tcp-192.0.2.2-5000-to-198.51.100.9-4739.ipfix": message(0)}
-    assert ran.stderr == "tcp 192.0.2.1:5000 to 198.51.100.9:4739: doesn't begin with a whole message, and is left out\n"
+    joined_late = "tcp 192.0.2.1:5000 to 198.51.100.9:4739"
+    assert ran.stderr == f"{joined_late}: doesn't begin with a whole message, and is left out\n"
 
 
 def test_messages_of_sctp_are_taken(tmp_path):

@@ -33,8 +33,8 @@ def test_the_commands_of_the_guide_print_what_it_says(place, program):
     assert len(found) >= 15 and found[0][0] == "cd examples/analytics"
     for command, printed in found[1:]:
         ran = subprocess.run(
-            ["bash", "-c", command.replace(PLACE, place)], cwd=FOLDER, env={**os.environ, "IPFIXCOL": program, "LC_ALL": "C.UTF-8"},
-            capture_output=True, text=True, timeout=300, check=False,
+            ["bash", "-c", command.replace(PLACE, place)], cwd=FOLDER, capture_output=True, text=True, timeout=300,
+            env={**os.environ, "IPFIXCOL": program, "LC_ALL": "C.UTF-8"}, check=False,
         )
         assert ran.stderr == "", command
         assert ran.stdout.replace(place, PLACE) == printed, command
