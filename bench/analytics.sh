@@ -28,16 +28,19 @@ load() { rm -f "$scratch/flows.db"; "$scripts/load" "$scratch/flows.db" "$lines"
 ask() { "$scripts/ask" --json "$scratch/flows.db" > "$scratch/ask.json"; }
 report() { "$scripts/report" "$lines" "$scratch/flows.html"; }
 workers() {
-    rm -rf "$scratch/lines"
     "$scripts/archive" --workers "$1" --json "$scratch/archive.json" "$archive" "$scratch/lines"
     # the answers are those of sqlite3, where it was asked
     if [ -e "$scratch/ask.json" ]; then cmp "$scratch/ask.json" "$scratch/archive.json"; fi
-    rm -rf "$scratch/lines"
 }
 for step in "$@"; do
     echo "$step (load $(cut -d' ' -f1 /proc/loadavg)):"
     case $step in
-        workers*) time workers "${step#workers}" ;;
+        workers*)
+            rm -rf "$scratch/lines"
+            time workers "${step#workers}"
+            echo "$step again, with the lines there (load $(cut -d' ' -f1 /proc/loadavg)):"
+            time workers "${step#workers}"
+            ;;
         *) time "$step" ;;
     esac
 done
