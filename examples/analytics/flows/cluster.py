@@ -22,7 +22,6 @@ from . import lines, outputs, sums
 from .answers import answers_of
 from .faults import Fault
 
-BLOCK = 32 * 2**20
 # How many sums are added by one task.
 TOGETHER = 8
 
@@ -214,7 +213,7 @@ def pairs_of(archive, target):
     return [(str(path), str(target / path.relative_to(archive)) + ".json") for path in found]
 
 
-def answered(client, program, archive, target, top, step, block=BLOCK, shows=False):
+def answered(client, program, archive, target, top, step, block, shows):
     """Turns an archive into lines, and answers by all of them."""
     pairs = pairs_of(archive, target)
     octets = converted(client, program, pairs, shows)

@@ -7,11 +7,13 @@ from .faults import Fault
 
 
 def run(command):
-    """Runs a command, and ends with 1 and its one line where it has a fault."""
+    """Runs a command, and ends with 1 and a line where it has a fault, or something that it needs isn't there."""
     try:
         command()
     except Fault as fault:
         raise SystemExit(str(fault)) from None
+    except ModuleNotFoundError as error:
+        raise SystemExit(f"{error.name} isn't installed (Debian: apt-get install python3-{error.name})") from None
     except BrokenPipeError:
         raise SystemExit("the output was closed by its reader") from None
     except KeyboardInterrupt:

@@ -14,6 +14,8 @@ from .faults import Fault
 
 # The greatest number that a database keeps, and that we take: signed, in 64 bits.
 MOST = 2**63 - 1
+# The usual size of a block of lines, in octets.
+BLOCK = 32 * 2**20
 
 SOURCE = (("iana:sourceIPv4Address", socket.AF_INET), ("iana:sourceIPv6Address", socket.AF_INET6))
 DESTINATION = (("iana:destinationIPv4Address", socket.AF_INET), ("iana:destinationIPv6Address", socket.AF_INET6))

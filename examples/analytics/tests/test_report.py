@@ -7,7 +7,7 @@ import re
 import struct
 
 import pytest
-from conftest import refused, run, wants
+from conftest import FOLDER, refused, run, wants
 from flows import words
 
 GOOD = '{"@type":"ipfix.entry","iana:sourceIPv4Address":"10.0.0.1","iana:octetDeltaCount":7}\n'
@@ -150,6 +150,16 @@ def test_bad_lines_leave_the_page(tmp_path, name, text, why):
     refused(run("report", "bad.json", "page.html", cwd=tmp_path), "bad.json: " + why)
     assert (tmp_path / "page.html").read_text() == "as it was"
     assert sorted(path.name for path in tmp_path.iterdir()) == ["bad.json", "page.html"]
+
+
+def test_a_missing_package_is_told(tmp_path, lines_file):
+    for command, words, package in (
+        ("report", (lines_file, tmp_path / "page.html"), "matplotlib"),
+        ("archive", (FOLDER / "sample" / "archive", tmp_path / "lines"), "dask"),
+    ):
+        (tmp_path / f"{package}.py").write_text(f"raise ModuleNotFoundError(name='{package}')\n")
+        ran = run(command, *words, env={"PYTHONPATH": str(tmp_path)})
+        refused(ran, f"{package} isn't installed (Debian: apt-get install python3-{package})")
 
 
 def test_a_page_that_can_not_be_written_is_told(tmp_path, lines_file):
