@@ -11,8 +11,11 @@ from .faults import Fault
 
 @contextlib.contextmanager
 def replacing(path):
-    """A path beside this one to write to. It takes this one's place at the end, where nothing went wrong."""
-    path = pathlib.Path(path)
+    """A path beside this one to write to. It takes this one's place at the end, where nothing went wrong. Where this one
+    is a link, that is the place of what it leads to."""
+    path = pathlib.Path(os.path.realpath(path))
+    if path.exists() and not path.is_file():
+        raise Fault(f"{path}: no regular file, which could be replaced")
     beside = path.with_name(f".{path.name}.{secrets.token_hex(4)}.part")
     try:
         yield beside

@@ -164,6 +164,16 @@ def test_a_missing_package_is_told(tmp_path, lines_file):
 
 def test_a_page_that_can_not_be_written_is_told(tmp_path, lines_file):
     refused(run("report", lines_file, tmp_path / "none" / "page.html"), "page.html: No such file")
+    refused(run("report", lines_file, tmp_path), "no regular file")
+    refused(run("report", lines_file, "/dev/null"), "/dev/null: no regular file")
+
+
+def test_a_link_stays_a_link(tmp_path, page, lines_file):
+    (tmp_path / "kept").mkdir()
+    (tmp_path / "page.html").symlink_to("kept/page.html")
+    assert run("report", lines_file, tmp_path / "page.html").returncode == 0
+    assert (tmp_path / "page.html").is_symlink()
+    assert (tmp_path / "kept" / "page.html").read_bytes() == page.read_bytes()
 
 
 @wants("chromium")
