@@ -62,11 +62,12 @@ IsOfCollect text file plan (Refused (NoOutput j) n m) = IsPlanOf text file true 
 IsOfCollect text file plan (Refused NoMemory n m) = (plan ≡ Nothing) ⊎ IsPlanOf text file true plan
 IsOfCollect text file plan (Ran run) = IsPlanOf text file true plan
 
--- what may come of a command, and what it runs: words of none are refused, and so are those of commands that aren't built yet
+-- what may come of a command, and what it runs: words of none are refused, and so are those of `generate`, which isn't built
+-- yet
 abbrev pub MayCome : Command → (List ℕ → TextSeen) → Plan → Came → Type 0
 MayCome (Direct place out) text plan came = (plan ≡ OneFile place out) × IsOfDirect came
 MayCome (Check file) text plan came = (plan ≡ Nothing) × IsOfCheck text file came
-MayCome (Collect file) text plan came = (plan ≡ Nothing) × (came ≡ BadWords)
+MayCome (Collect file) text plan came = IsOfCollect text file plan came
 MayCome (Generate number count) text plan came = (plan ≡ Nothing) × (came ≡ BadWords)
 MayCome NoCommand text plan came = (plan ≡ Nothing) × (came ≡ BadWords)
 
@@ -87,4 +88,4 @@ module _ {S : Type 0} (left : S → Option (List Scripted)) (faults : S → ℕ)
 
   -- what the run of a description promises
   abbrev pub Collects : List ℕ → Seen → Seen → ℕ → Type 0
-  Collects file old new status = CallsOf (λ text plan came. IsOfCollect text file plan came) old new status
+  Collects file old new status = Calls (Collect file) old new status
