@@ -213,7 +213,8 @@ def at_random(draw, count):
         show(stage, *random_record(draw))
 
 
-print('# Written by tools/act_cases.py. SPECIFIERS RECORD FATE INTERMEDIATE')
-worked()
-edges()
-at_random(random.Random(7011), 120)
+if __name__ == '__main__':
+    print('# Written by tools/act_cases.py. SPECIFIERS RECORD FATE INTERMEDIATE')
+    worked()
+    edges()
+    at_random(random.Random(7011), 120)

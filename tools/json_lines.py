@@ -27,29 +27,25 @@ def builtin_elements():
 
 
 ELEMENTS = builtin_elements()
+BUILTIN = {(0, number): (f"iana:{name}", kind) for number, (name, kind) in ELEMENTS.items()}
 
 
-def name_of(enterprise, element):
-    if enterprise == 0 and element in ELEMENTS:
-        return "iana:" + ELEMENTS[element][0]
-    return f"en{enterprise}:id{element}"
+def element_of(pair, known):
+    """The name and the type of an element, by its enterprise number and its ID."""
+    return known.get(pair) or (f"en{pair[0]}:id{pair[1]}", "unknown")
 
 
-def type_of(enterprise, element):
-    return ELEMENTS[element][1] if enterprise == 0 and element in ELEMENTS else "unknown"
-
-
-def line_of(definition, values):
-    """The line of a record."""
+def line_of(definition, values, known=BUILTIN):
+    """The line of a record, by the elements that are known."""
     kind, _, fields = definition
     members = {}
     for (enterprise, element, _), value in zip(fields, values):
         if (enterprise, element) != PADDING:
-            members.setdefault((enterprise, element), []).append(text_of(type_of(enterprise, element), value))
+            members.setdefault((enterprise, element), []).append(text_of(element_of((enterprise, element), known)[1], value))
     line = '{"@type":"ipfix.%s"' % ("entry" if kind == 2 else "options")
     for pair, texts in members.items():
         text = texts[0] if len(texts) == 1 else "[" + ",".join(texts) + "]"
-        line += f',"{name_of(*pair)}":{text}'
+        line += f',"{element_of(pair, known)[0]}":{text}'
     return line + "}\n"
 
 

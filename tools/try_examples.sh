@@ -1,12 +1,15 @@
 #!/usr/bin/env bash
 # try_examples.sh PROGRAM: runs `PROGRAM direct` on each file of examples/, and compares the status and the number of
 # lines with what the file is to give. What the lines say is compared where they are one record's alone. Then it runs
-# `PROGRAM check` on each description, which is to be right. PROGRAM is an absolute path, or one from examples/.
+# `PROGRAM check` on each description, which is to be right, and `PROGRAM collect` on those that run, and compares what is
+# written. It works in a copy of examples/. PROGRAM is an absolute path, or one from the folder that it is called in.
 set -u
-cd "$(dirname "$0")/../examples" || exit 1
-program=$1
-out=$(mktemp)
-trap 'rm -f "$out"' EXIT
+program=$(realpath "$1")
+work=$(mktemp -d)
+trap 'rm -rf "$work"' EXIT
+cp -r "$(dirname "$0")/../examples/." "$work"
+cd "$work" || exit 1
+out=out.json
 flow='{"@type":"ipfix.entry","iana:sourceIPv4Address":"10.0.0.1","iana:destinationIPv4Address":"10.0.0.2","iana:octetDeltaCount":1000}'
 source='{"@type":"ipfix.entry","iana:sourceIPv4Address":"10.0.0.1"}'
 failed=0
@@ -48,5 +51,45 @@ for description in descriptions/*.toml; do
         failed=1
     fi
 done
+# NAME COUNTS FILE COMMAND: `collect` ends with 0 and prints these counts among the others, and COMMAND of what FILE holds
+# prints the text on standard input.
+collect() {
+    local printed status count
+    printed=$("$program" collect -c "descriptions/$1.toml")
+    status=$?
+    if [ "$status" != 0 ] || [ "$(wc -l <<< "$printed")" != 17 ]; then
+        echo "$1: status $status, printed $printed"
+        failed=1
+    fi
+    for count in $2; do
+        if ! grep -qx "${count/=/ }" <<< "$printed"; then
+            echo "$1: no $count in $printed"
+            failed=1
+        fi
+    done
+    if [ "$(eval "$4" < "$3")" != "$(cat)" ]; then
+        echo "$1: $3 holds something else"
+        failed=1
+    fi
+}
+collect simple 'sessions=1 messages=1 records=1' flows.json cat <<< "$flow"
+collect two_files 'sessions=2 messages=2 records=101' flows.json 'wc -l' <<< 101
+collect two_files 'sessions=2' order.log 'od -An -tu1 | tr -d " \n"' <<< 000000010101
+collect filter 'records=100' flows.json 'grep -c "10\.0\.4\."' <<< 10
+collect anonymise 'records=100' flows.json 'grep -c "198\.51\..*192\.0\.2\.0\""' <<< 100
+collect elements 'records=1' flows.json cat <<< '{"@type":"ipfix.entry","iana:octetDeltaCount":[5,6],"vendor:tag":43981}'
+collect listing 'records=2 redefined=1' page.txt cat << 'END'
+session 0/0 open file
+message 0/0 domain 1 export 100 sequence 0 records 2
+  template 256 records 1
+    iana:sourceIPv4Address="10.0.0.1"
+  template 256 records 1
+    iana:destinationIPv4Address="10.0.0.2"
+session 0/0 close
+END
+if [ "$("$program" collect -c descriptions/everything.toml)" != 'not built' ]; then
+    echo "everything: not told as not built"
+    failed=1
+fi
 [ "$failed" = 0 ] && echo "all examples as they are to be"
 exit "$failed"
