@@ -1,0 +1,258 @@
+#!/usr/bin/env python3
+"""A second reader of whole runs of `collect`, written apart from the program and slowly, from docs/DEFINITIONS.md,
+docs/OPERATING.md and docs/FORMATS.md.
+
+    tools/runs.py FILE..
+
+prints of each script what `script_run FILE` prints of it, where its call is `collect -c conf`: the status, what was said,
+and what each sink holds. Descriptions are taken to have no fault of their own.
+"""
+
+import sys
+import tomllib
+
+sys.dont_write_bytecode = True
+
+from act_cases import changed, is_kept
+from arrivals import octets_of
+from items import COUNTS, read_input
+from json_lines import BUILTIN, element_of, line_of
+from value_texts import text_of
+
+QUESTIONS = 1000
+OPTIONS_SET = 3
+
+
+class Refused(Exception):
+    """A call that ends before its run."""
+
+    def __init__(self, status, line):
+        super().__init__(line)
+        self.status, self.line = status, line
+
+
+class Failing:
+    """Writes of which some fail, each behind so many octets of its piece."""
+
+    def __init__(self, fails=()):
+        self.fails = {}
+        for fail in fails:
+            call, taken = map(int, fail.split(":"))
+            self.fails.setdefault(call, taken)
+        self.calls, self.octets, self.failed = 0, b"", False
+
+    def write(self, piece):
+        """Whether it was taken whole. Nothing is written behind a fault."""
+        if self.failed:
+            return False
+        taken = self.fails.get(self.calls)
+        self.calls += 1
+        self.failed = taken is not None
+        self.octets += piece[:taken] if self.failed else piece
+        return not self.failed
+
+
+class Script:
+    """The outside that a call finds. Of several of one name the first counts."""
+
+    def __init__(self, text):
+        self.texts, self.sources, self.failing, self.sinks, self.names = {}, {}, {}, {}, []
+        self.say = Failing()
+        fails = {}
+        for line in text.splitlines():
+            if line.startswith("  "):
+                events.append(line[2:])
+                continue
+            word, *parts = line.split(" ")
+            if word == "text":
+                self.texts.setdefault(parts[0], octets_of(parts[1]))
+            elif word == "source":
+                events = []
+                self.sources.setdefault(parts[0], events)
+            elif word == "fails":
+                self.failing[parts[0]] = set(map(int, parts[1:]))
+            elif word == "sink":
+                self.names.append(parts[0])
+            elif word == "sinkfails":
+                fails.setdefault(parts[0], parts[1:])
+            elif word == "sayfails":
+                self.say = Failing(parts)
+        self.sinks = {name: Failing(fails.get(name, ())) for name in self.names}
+
+
+def elements_of(script, names):
+    """The elements that are known: those that are built in, and those of the tables, in order."""
+    known = dict(BUILTIN)
+    for name in names:
+        if name not in script.texts:
+            raise Refused(3, f"source fault: {name}")
+        called = {full for full, _ in known.values()}
+        added = {}
+        for place, row in enumerate(tomllib.loads(script.texts[name].decode())["element"]):
+            pair, full = (row["pen"], row["id"]), f"{row['prefix']}:{row['name']}"
+            if pair in known or pair in added:
+                raise Refused(2, f"elements {name}: duplicate {pair[0]} {pair[1]}")
+            if full in called:
+                raise Refused(2, f"elements {name}: duplicate name {place}")
+            called.add(full)
+            added[pair] = full, row["type"]
+        known |= added
+    return known
+
+
+def is_built(description):
+    outputs = description["output"]
+    return len(outputs) == 1 and outputs[0]["kind"] != "ipfix" and not {"odid-only", "odid-except"} & set(outputs[0])
+
+
+def through(stages, sets):
+    """What the intermediates leave of sets, each a Template ID, a definition and records. Sets without records go."""
+    for stage in stages:
+        left = []
+        for template, definition, records in sets:
+            fields = [(pen, number, length) for pen, number, length in definition[2]]
+            if stage["kind"] == "filter":
+                records = [values for values in records if is_kept(stage, fields, values)]
+            else:
+                records = [changed(stage, fields, values) for values in records]
+            if records:
+                left.append((template, definition, records))
+        sets = left
+    return sets
+
+
+def json_text(output, known, item):
+    if item[0] != "message":
+        return ""
+    wanted = [(definition, records) for _, definition, records in item[-1] if output.get("options", True) or definition[0] != OPTIONS_SET]
+    return "".join(line_of(definition, values, known) for definition, records in wanted for values in records)
+
+
+def listed(known, definition, values):
+    shown = []
+    for (pen, number, _), value in zip(definition[2], values):
+        name, kind = element_of((pen, number), known)
+        shown.append(f"{name}={text_of(kind, value)}")
+    return "    " + " ".join(shown) + "\n"
+
+
+def view_text(known, item):
+    match item:
+        case ("open", number, session, transport):
+            return f"session {number}/{session} open {transport}\n"
+        case ("close", number, session):
+            return f"session {number}/{session} close\n"
+        case ("tick", number, seconds):
+            return f"tick {number} {seconds}\n"
+        case ("message", number, session, domain, export, sequence, sets):
+            count = sum(len(records) for _, _, records in sets)
+            if not count:
+                return ""
+            text = f"message {number}/{session} domain {domain} export {export} sequence {sequence} records {count}\n"
+            for template, definition, records in sets:
+                text += f"  template {template} records {len(records)}\n"
+                text += "".join(listed(known, definition, values) for values in records)
+            return text
+
+
+def in_turn(inputs):
+    """The items of all inputs in the order in which they are taken, each with the number of its input."""
+    asked = [0] * len(inputs)
+    while any(asked[k] < len(one.answers) for k, one in enumerate(inputs)):
+        for k, one in enumerate(inputs):
+            for answer in one.answers[asked[k] : asked[k] + QUESTIONS]:
+                asked[k] += 1
+                if answer == "notyet":
+                    break
+                if answer != "nothing":
+                    yield k, answer
+
+
+class Run:
+    """A run of a description."""
+
+    def __init__(self, script, description, known):
+        self.description, self.known = description, known
+        self.log = None
+        self.inputs = []
+        opened = set()
+        for number, table in enumerate(description["input"]):
+            place = table["path"] if table["kind"] == "file" else table["listen"]
+            if place not in script.sources or place in opened:
+                raise Refused(3, f"source fault: {table['name']}")
+            opened.add(place)
+            self.inputs.append(read_input(number, table, script.sources[place], script.failing.get(place, ())))
+        if "order-log" in description:
+            self.log = script.sinks.get(description["order-log"])
+            if self.log is None:
+                raise Refused(4, "sink fault: order-log")
+        self.output = description["output"][0]
+        self.sink = script.sinks.get(self.output["path"])
+        if self.sink is None:
+            raise Refused(4, f"sink fault: {self.output['name']}")
+
+    def text(self, item):
+        if item[0] == "message":
+            item = (*item[:-1], through(self.description.get("intermediate", []), item[-1]))
+        if self.output["kind"] == "json":
+            return json_text(self.output, self.known, item)
+        return view_text(self.known, item)
+
+    def take_all(self):
+        for number, item in in_turn(self.inputs):
+            if self.log and not self.log.write(number.to_bytes(2, "big")):
+                continue
+            text = self.text(item)
+            if text:
+                self.sink.write(text.encode())
+
+    def lines(self):
+        """The lines that are said of it, and its status."""
+        lines, status = [], 0
+        for table, one in zip(self.description["input"], self.inputs):
+            if one.failed:
+                lines.append(f"source fault: {table['name']}")
+                status = 3
+        for name, sink in (("order-log", self.log), (self.output["name"], self.sink)):
+            if sink and sink.failed:
+                lines.append(f"sink fault: {name}")
+                status = 4
+        for name in COUNTS:
+            lines.append(f"{name} {min(sum(one.counts[name] for one in self.inputs), 2**64 - 1)}")
+        return lines + ["opened 0", "released 0"], status
+
+
+def begun(script):
+    """The run of a script's description, which has begun."""
+    if "conf" not in script.texts:
+        raise Refused(3, "source fault: conf")
+    description = tomllib.loads(script.texts["conf"].decode())
+    known = elements_of(script, description.get("elements", []))
+    if not is_built(description):
+        raise Refused(2, "not built")
+    return Run(script, description, known)
+
+
+def printed(text):
+    """What `script_run` prints of a script."""
+    script = Script(text)
+    try:
+        run = begun(script)
+    except Refused as refusal:
+        script.say.write(f"{refusal.line}\n".encode())
+        status = refusal.status
+    else:
+        run.take_all()
+        lines, status = run.lines()
+        for line in lines:
+            if not script.say.write(f"{line}\n".encode()):
+                status = 4
+                break
+    held = [f"held {name} {script.sinks[name].octets.hex() or '-'}\n" for name in script.names]
+    return f"status {status}\nsaid {script.say.octets.hex() or '-'}\n" + "".join(held)
+
+
+if __name__ == "__main__":
+    for path in sys.argv[1:]:
+        with open(path, encoding="utf-8") as file:
+            print(printed(file.read()), end="")
