@@ -87,6 +87,8 @@ def toml(value):
         return '{ ' + ', '.join(f'{key} = {toml(member)}' for key, member in value.items()) + ' }'
     if isinstance(value, list):
         return '[' + ', '.join(map(toml, value)) + ']'
+    if isinstance(value, bool):
+        return str(value).lower()
     return str(value) if isinstance(value, int) else f'"{value}"'
 
 
