@@ -25,7 +25,7 @@ from exporters import ELEMENTS, NUMBERS, OPTIONS, TEMPLATES, Exporter, a_definit
 
 # One script of so many is long: more sessions than may be open at once, more domains than a session may have, or more events
 # than an input is asked for in turn.
-LONG = 40
+LONG = 20
 
 MOST_DOMAINS = 1024
 
@@ -258,10 +258,12 @@ def happened(text):
     """What happens in a script: its status with the lines of faults, and its counts."""
     status, said = runs.printed(text).split("\n")[:2]
     yield status, 1
-    for line in bytes.fromhex(said.removeprefix("said ").strip("-")).decode().splitlines():
+    *lines, cut = bytes.fromhex(said.removeprefix("said ").strip("-")).decode().split("\n")
+    yield "a line that is cut off", len(cut) > 0
+    for line in lines:
         name, _, number = line.rpartition(" ")
         if name in (*runs.COUNTS, "opened", "released"):
-            yield name, int(number or 0)
+            yield name, int(number)
         else:
             yield line, 1
 
