@@ -1,5 +1,7 @@
 -- One of the second of two lists side by side.
-use Rattle.std.proofs.Common.{◌≡◌, ℕ, zero, suc, ◌+◌, ◌<◌, List, [], ◌∷◌, length, get_or, set, sym, subst, ◌∙◌, arith, add-zero}
+use Rattle.std.proofs.Common.{All, take, ◌≡◌, ℕ, zero, suc, ◌+◌, ◌<◌, List, [], ◌∷◌, length, get_or, set, sym, subst, ◌∙◌, arith, add-zero}
+use Rattle.std.proofs.lemmas.List.{get_or-set_same, length-set, take-set}
+use Rattle.std.proofs.lemmas.List.Elements.{All-more}
 use Rattle.call_spec.specs.Pairs.{Each}
 
 module _ {A B : Type 0} where
@@ -29,3 +31,9 @@ module _ {A B : Type 0} where
       let first : P m a x = subst (λ (w : B). P m a w) (sym is) (subst (λ k. P k a b) (sym here) e.0) in
       (subst (λ k. Q k a y) here (g a first), behind P Q (suc n) m xs ys (omega arith) f e.1)
   put P Q n (suc i) m (a ∷ xs) (b ∷ ys) d x y lt is at f g e = (f n a b (λ k. omega arith) e.0, put P Q (suc n) i m xs ys d x y (omega arith) is (omega arith) f g e.1)
+
+-- what holds of the first ones of a list, and of the next one in its new place
+pub all_more_set : {X : Type 0} (P : X → Type 0) (xs : List X) (i : ℕ) (x : X) → i < length xs → All P (take i xs) → P x → All P (take (i + 1) (set xs i x))
+all_more_set P xs i x lt all one =
+    let long : length (set xs i x) ≡ length xs = length-set xs i x in
+    All-more P (set xs i x) i x (omega arith) (subst (All P) (sym (take-set xs i x)) all) (subst P (sym (get_or-set_same xs i x x lt)) one)

@@ -1,11 +1,10 @@
 -- Turns of inputs, one after another.
-use Rattle.std.proofs.Common.{◌≡◌, ℕ, ◌+◌, ◌<◌, List, [], ◌∷◌, ◌++◌, Option, Some, None, map, length, get_or, set, refl, ap, sym, subst, ◌∙◌, arith, append_assoc, append-nil}
+use Rattle.std.proofs.Common.{◌≡◌, ℕ, ◌<◌, List, [], ◌∷◌, ◌++◌, Option, length, get_or, set, ap, sym, subst, ◌∙◌, arith, append_assoc, append-nil}
 use Rattle.std.specs.Prelude.{IsSome, is_some}
 use Rattle.std.proofs.lemmas.List.{map-append}
 use Rattle.arrival_spec.specs.declared.event.Scripted.{Scripted}
 use Rattle.arrival_spec.specs.Settings.{Settings}
 use Rattle.run_spec.specs.Read.{ReadArrival}
-use Rattle.run_spec.specs.Judge.{Inputs}
 use Rattle.run_spec.specs.Work.{items_of, work_of, item_of as item_given}
 use Rattle.run_spec.proofs.MoreLemmas.{one_more_item}
 use Rattle.call_spec.specs.Pairs.{Each}
@@ -18,7 +17,7 @@ use Rattle.input_lane.specs.Inlets.{and_given}
 use Rattle.run_input.specs.declared.input.Input.{Input}
 use Rattle.run_input.specs.declared.input.InputAnswer.TheVariants as answer
 use Rattle.run_input.specs.Inputs.{HasGiven, Brings, IsRight}
-use Rattle.logged_output.specs.Entries.{AreOf, Entry, entries_of, items_in, own}
+use Rattle.logged_output.specs.Entries.{AreOf, Entry, entries_of, items_in}
 use Rattle.input_turns.specs.Turns.{Follows, Turned, Went, InputGives, InputSoFar, SoFar, Gives}
 use Rattle.logged_output.proofs.EntryLemmas.{all_joined, entry, entry_one, own_known, own_more, own_other, takes_then}
 

@@ -1,5 +1,5 @@
 -- What inputs hand on in their turns.
-use Rattle.std.specs.Prelude.{ℕ, ◌≡◌, List, ◌++◌, length, Option}
+use Rattle.std.specs.Prelude.{ℕ, ◌≡◌, ◌⊎◌, List, ◌++◌, length, Option, IsSome}
 use Rattle.arrival_spec.specs.declared.event.Scripted.{Scripted}
 use Rattle.arrival_spec.specs.Settings.{Settings}
 use Rattle.run_spec.specs.Read.{ReadArrival}
@@ -8,10 +8,15 @@ use Rattle.run_spec.specs.Work.{items_of}
 use Rattle.call_spec.specs.Pairs.{Each}
 use Rattle.parser_lane.specs.Parsers.{inputs}
 use Rattle.run_input.specs.declared.input.Input.{Input}
-use Rattle.run_input.specs.Inputs.{HasGiven}
+use Rattle.run_input.specs.declared.input.InputAnswer.TheVariants as answer
+use Rattle.run_input.specs.Inputs.{Brings, HasGiven, IsRight}
 use Rattle.logged_output.specs.Entries.{AreKnown, AreOf, Entry, items_in, own, Takes}
 
 module _ {S : Type 0} (left : S → Option (List Scripted)) (faults : S → ℕ) where
+  -- an input has ended, or its source had nothing ready when it was asked last
+  abbrev pub HadNothing : Input S → Type 0
+  HadNothing x = IsSome x.end ⊎ ((old : Input S) × IsRight left faults old × Brings left faults old x answer.NotYet)
+
   -- an input handed on these entries, which are the items of the arrivals that it worked off behind others
   pub record Went (first : S) (settings : Settings) (number : ℕ) (before : List ReadArrival) (more : List Entry) (x : Input S) : Type 0 where
     pub given : List Scripted

@@ -1,16 +1,10 @@
 -- What an input stands for behind each of its answers.
-use Rattle.std.proofs.Common.{◌≡◌, ℕ, true, false, List, [], ◌∷◌, ◌++◌, Option, Some, None, refl, ap, sym, subst, ◌∙◌, append_assoc, append-nil}
-use Rattle.std.specs.Prelude.{IsSome}
+use Rattle.std.proofs.Common.{◌≡◌, ℕ, true, false, List, [], ◌∷◌, ◌++◌, Some, refl, sym, subst, ◌∙◌, append_assoc, append-nil}
 use Rattle.arrival_spec.specs.declared.event.Scripted.{Scripted}
 use Rattle.arrival_spec.specs.Settings.{Settings}
-use Rattle.arrival_spec.specs.Run.{arrivals_of, marks_of}
+use Rattle.arrival_spec.specs.Run.{marks_of}
 use Rattle.run_spec.specs.Read.{ReadArrival, AreReadAs, IsReadAs}
-use Rattle.run_spec.specs.Work.{work_of, item_of as item_given}
 use Rattle.run_spec.proofs.ReadLemmas.{one_more_read}
-use Rattle.call_spec.specs.declared.end.InputEnd.{InputEnd}
-use Rattle.call_spec.specs.declared.end.InputEnd.TheVariants as end
-use Rattle.pipeline_message.specs.declared.message.Msg.{Msg}
-use Rattle.pipeline_message.specs.Items.{item_of}
 use Rattle.session_table.specs.declared.arrival.Arrival.{Arrival as Arrived}
 use Rattle.session_table.specs.declared.arrival.Arrival.TheVariants as gives
 use Rattle.input_lane.specs.declared.came.InletAnswer.TheVariants as answer
@@ -23,9 +17,8 @@ use Rattle.input_lane.specs.Inlets.Asked.{NotAsked, Gave, AtEnd, Failing, Wanted
 use Rattle.input_lane.proofs.MarkLemmas.{counts_marks}
 use Rattle.input_lane.proofs.StandLemmas.{goes_on_stands}
 use Rattle.parser_lane.specs.declared.parser.Parser.{Parser}
-use Rattle.parser_lane.specs.Parsers.{CanCome, MayCome, arrival_of, inputs, Stands as ParserStands}
-use Rattle.run_input.specs.declared.work.Worked.TheVariants as worked
-use Rattle.run_input.specs.Standing.{IsDone, IsFront, IsOpen, StandsBy, WorksOff, end_by}
+use Rattle.parser_lane.specs.Parsers.{MayCome, arrival_of, Stands as ParserStands}
+use Rattle.run_input.specs.Standing.{IsDone, IsFront, IsOpen, StandsBy, end_by}
 use Rattle.run_input.proofs.FrontLemmas.{Given, goes_front, got_comes, got_goes, reads_front}
 
 -- an input that goes on stands, too

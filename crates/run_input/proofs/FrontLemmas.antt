@@ -1,5 +1,5 @@
 -- What the arrivals of an input begin with, and which may come next.
-use Rattle.std.proofs.Common.{◌≡◌, ◌⊎◌, inl, inr, ℕ, zero, suc, ◌+◌, ◌≤◌, ◌<◌, Bool, true, false, cond, List, [], ◌∷◌, ◌++◌, Option, Some, None, length, take, refl, ap, sym, subst, ◌∙◌, arith, append_assoc, append-nil}
+use Rattle.std.proofs.Common.{◌≡◌, ◌⊎◌, inl, inr, ℕ, zero, suc, ◌≤◌, ◌<◌, Bool, true, false, cond, List, [], ◌∷◌, ◌++◌, Some, length, take, refl, ap, sym, subst, ◌∙◌, arith, append_assoc, append-nil}
 use Rattle.std.specs.Prelude.{◌==◌, fold}
 use Rattle.std.proofs.lemmas.List.Elements.{filter-append}
 use Rattle.col_base.specs.declared.base.SessionKey.{SessionKey}
@@ -10,7 +10,7 @@ use Rattle.arrival_spec.specs.Events.{events_of, first_events, is_event}
 use Rattle.arrival_spec.specs.Mark.{arrivals_in}
 use Rattle.arrival_spec.specs.Order.{are_in_order, fits_behind, may_come, open_by, open_keys, opened_in, opened_keys}
 use Rattle.arrival_spec.specs.Settings.{Settings}
-use Rattle.arrival_spec.specs.Run.{Run, run_of, arrivals_of}
+use Rattle.arrival_spec.specs.Run.{Run, arrivals_of}
 use Rattle.arrival_spec.proofs.RunLemmas.{arrived_before_all, looks_give_nothing}
 use Rattle.arrival_spec.proofs.LeadLemmas.{comes}
 use Rattle.arrival_spec.proofs.OrderLemmas.{in_order}

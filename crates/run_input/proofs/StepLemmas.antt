@@ -1,14 +1,13 @@
 -- An input's source, one question more.
-use Rattle.std.proofs.Common.{◌≡◌, ◌⊎◌, inl, inr, ℕ, ◌+◌, ◌≤◌, ◌<◌, Bool, true, false, cond, List, [], ◌∷◌, ◌++◌, Option, Some, None, length, refl, ap, sym, subst, ◌∙◌, arith, append_assoc, append-nil}
+use Rattle.std.proofs.Common.{◌≡◌, ◌⊎◌, inl, inr, ℕ, ◌+◌, ◌≤◌, ◌<◌, Bool, true, false, cond, List, [], ◌∷◌, ◌++◌, Option, Some, None, length, refl, ap, sym, subst, ◌∙◌, arith, append_assoc}
 use Rattle.std.proofs.lemmas.List.{length-append}
 use Rattle.std.proofs.lemmas.List.Elements.{filter-append}
 use Rattle.arrival_spec.specs.declared.event.Scripted.{Scripted}
 use Rattle.arrival_spec.specs.Events.{events_of, is_event}
 use Rattle.arrival_spec.specs.Settings.{Settings}
 use Rattle.site_io.specs.Events.{TakesFirst}
-use Rattle.site_io.specs.Outside.{Rose}
 use Rattle.call_spec.specs.Counts.{MovesBy}
-use Rattle.call_spec.specs.Ends.{TakenFrom, IsNothingLeft, IsFull, IsWithin, HasRoom}
+use Rattle.call_spec.specs.Ends.{TakenFrom, IsNothingLeft, IsWithin, HasRoom}
 use Rattle.input_lane.specs.declared.came.InletAnswer.{InletAnswer}
 use Rattle.input_lane.specs.declared.came.InletAnswer.TheVariants as answer
 use Rattle.session_table.specs.declared.arrival.Arrival.TheVariants as gives

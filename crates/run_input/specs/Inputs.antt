@@ -3,21 +3,23 @@ use Rattle.std.specs.Prelude.{ℕ, ◌≡◌, ◌⊎◌, ⊤, true, List, [], �
 use Rattle.arrival_spec.specs.declared.event.Scripted.{Scripted}
 use Rattle.arrival_spec.specs.declared.event.Scripted.TheVariants.{NotYet}
 use Rattle.arrival_spec.specs.Settings.{Settings}
-use Rattle.arrival_spec.specs.Run.{marks_of}
-use Rattle.run_spec.specs.Read.{ReadArrival}
+use Rattle.arrival_spec.specs.Events.{is_event}
+use Rattle.arrival_spec.specs.Mark.{arrivals_in}
+use Rattle.arrival_spec.specs.Run.{marks_of, run_of}
+use Rattle.run_spec.specs.Read.{ReadArrival, AreReadAs}
 use Rattle.run_spec.specs.Work.{work_of, works_of, item_of as item_given}
 use Rattle.count_spec.specs.Counts.{counts}
 use Rattle.call_spec.specs.Counts.{MovesBy}
+use Rattle.call_spec.specs.declared.end.InputEnd.{InputEnd}
 use Rattle.call_spec.specs.Ends.{TakenFrom, IsNothingLeft, IsFull, IsWithin, HasRoom}
-use Rattle.pipeline_message.specs.declared.message.Msg.{Msg}
 use Rattle.pipeline_message.specs.declared.run_counts.RunCounts.{RunCounts}
 use Rattle.pipeline_message.specs.Items.{item_of}
 use Rattle.pipeline_message.specs.Shown.{shown_counts}
 use Rattle.message_texts.specs.Puts.{IsSoundMessage}
 use Rattle.input_lane.specs.declared.state.Reading.{Reading}
 use Rattle.input_lane.specs.declared.state.Reading.TheVariants as reading
-use Rattle.input_lane.specs.Inlets.{Asked, and_given}
-use Rattle.input_lane.specs.Inlets.Asked.{Gave}
+use Rattle.input_lane.specs.Inlets.{Asked, Asks, and_given}
+use Rattle.input_lane.specs.Inlets.Asked.{NotAsked, Gave, AtEnd, Failing, Wanted}
 use Rattle.parser_lane.specs.Parsers.{inputs}
 use Rattle.run_input.specs.declared.input.Input.{Input}
 use Rattle.run_input.specs.declared.input.InputAnswer.{InputAnswer}
@@ -46,12 +48,39 @@ IsSoundAnswer answer.Nothing = ⊤
 IsSoundAnswer answer.NotYet = ⊤
 IsSoundAnswer answer.Ended = ⊤
 
--- the source had nothing ready where that is answered
+-- what a source gave that was asked: an event, or that it had nothing ready where that is answered
+abbrev pub IsGiven : Scripted → InputAnswer → Type 0
+IsGiven e (answer.Message msg) = is_event e ≡ true
+IsGiven e answer.Nothing = is_event e ≡ true
+IsGiven e answer.NotYet = e ≡ NotYet
+IsGiven e answer.Ended = is_event e ≡ true
+
+-- an answer that needs no event: a message may have waited, or the input has ended
+abbrev pub NeedsNone : InputAnswer → Type 0
+NeedsNone (answer.Message msg) = ⊤
+NeedsNone answer.Nothing = ⊥
+NeedsNone answer.NotYet = ⊥
+NeedsNone answer.Ended = ⊤
+
+-- which answers a question to the source allows
 abbrev pub IsCause : Asked → InputAnswer → Type 0
-IsCause asked (answer.Message msg) = ⊤
-IsCause asked answer.Nothing = ⊤
-IsCause asked answer.NotYet = asked ≡ Gave NotYet
-IsCause asked answer.Ended = ⊤
+IsCause NotAsked a = NeedsNone a
+IsCause (Gave e) a = IsGiven e a
+IsCause AtEnd a = NeedsNone a
+IsCause Failing a = NeedsNone a
+IsCause Wanted a = a ≡ answer.Ended
+
+-- only an input that hasn't ended asks its source
+abbrev pub MayAsk : Asked → Option InputEnd → Type 0
+MayAsk NotAsked end = ⊤
+MayAsk (Gave e) end = end ≡ None
+MayAsk AtEnd end = end ≡ None
+MayAsk Failing end = end ≡ None
+MayAsk Wanted end = end ≡ None
+
+-- the messages of all arrivals of these events were handed on, but for what comes with the end
+abbrev pub AreAllRead : Settings → ℕ → List Scripted → List ReadArrival → Type 0
+AreAllRead settings number given read = AreReadAs (arrivals_in (run_of settings number given).marks) read
 
 -- the counts of an input that has ended are those that a run has of its events
 abbrev pub CountsAll : {S : Type 0} → Input S → RunCounts → Type 0
@@ -85,11 +114,17 @@ module _ {S : Type 0} (left : S → Option (List Scripted)) (faults : S → ℕ)
   abbrev pub Answers : S → Settings → ℕ → List Scripted → List ReadArrival → Input S → InputAnswer → Type 0
   Answers first settings number given read x (answer.Message msg) =
       (r : ReadArrival) × (item_of msg ≡ Some (item_given (inputs settings) (work_of (inputs settings) read r))) × HasGiven first settings number given (read ++ r ∷ []) x × (x.end ≡ None)
-  Answers first settings number given read x answer.Nothing = HasGiven first settings number given read x × (x.end ≡ None)
-  Answers first settings number given read x answer.NotYet = HasGiven first settings number given read x × (x.end ≡ None)
+  Answers first settings number given read x answer.Nothing = HasGiven first settings number given read x × (x.end ≡ None) × AreAllRead settings number given read
+  Answers first settings number given read x answer.NotYet = HasGiven first settings number given read x × (x.end ≡ None) × AreAllRead settings number given read
   Answers first settings number given read x answer.Ended = HasGiven first settings number given read x × IsSome x.end
+
+  -- what became of the source in a question, and what is answered for that
+  pub record Asking (asked : Asked) (old new : Input S) (a : InputAnswer) : Type 0 where
+    pub asks : Asks left faults asked old.inlet.source new.inlet.source
+    pub cause : IsCause asked a
+    pub may : MayAsk asked old.end
 
   -- whatever an input stood for, its source was asked once at most, and it stands for that with what came
   abbrev pub Brings : Input S → Input S → InputAnswer → Type 0
-  Brings old new a = (asked : Asked) × IsCause asked a
+  Brings old new a = (asked : Asked) × Asking asked old new a
       × ((first : S) (settings : Settings) (number : ℕ) (given : List Scripted) (read : List ReadArrival) → HasGiven first settings number given read old → Answers first settings number (and_given asked given) read new a)

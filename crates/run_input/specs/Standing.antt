@@ -1,5 +1,5 @@
 -- What an input stands for but for its source: all that its source gave, and the arrivals whose messages it handed on.
-use Rattle.std.specs.Prelude.{ℕ, ◌≡◌, ◌≤◌, ◌<◌, ⊤, false, List, [], ◌∷◌, ◌++◌, Option, Some, None}
+use Rattle.std.specs.Prelude.{ℕ, ◌≡◌, ⊤, false, List, [], ◌∷◌, ◌++◌, Option, Some, None}
 use Rattle.arrival_spec.specs.declared.event.Scripted.{Scripted}
 use Rattle.arrival_spec.specs.Arrival.{Arrival}
 use Rattle.arrival_spec.specs.Settings.{Settings}

@@ -18,14 +18,15 @@ use Rattle.call_spec.specs.Leaves.{Comes, KeepsLeft, KeepsHeld, IsRefusal, at_of
 use Rattle.call_spec.proofs.NameLemmas.{zero_or, none_after}
 use Rattle.site_openings.specs.declared.stopped.Stopped.{Stopped}
 use Rattle.site_openings.specs.declared.stopped.Stopped.TheVariants.{At, Memory}
-use Rattle.site_openings.specs.All.{sink_refusal, sink_stopped, source_stopped, IsRefused}
+use Rattle.site_openings.specs.All.{sink_refusal, sink_stopped, source_stopped, AreOut, IsRefused}
 use Rattle.call_spec.proofs.PairLemmas.{same_length}
 use Rattle.site_openings.specs.Out.{Begins, Kept}
 use Rattle.site_openings.specs.Places.{places_of, place_left, place_faults, place_openings, place_out, all_left, SourcesOut, SourcesBack, SourcesStopped}
-use Rattle.site_openings.specs.Sinks.{SinksStopped}
+use Rattle.site_openings.specs.Sinks.{nothing_held, sink_faults, sink_held, sink_openings, sink_out, SinksBack, SinksOut, SinksStopped}
 use Rattle.site_openings.proofs.OutLemmas.{refused_counts, shows_start, others_same, untried}
 use Rattle.site_openings.proofs.OpenLemmas.{no_mark, no_count}
 use Rattle.site_openings.proofs.PlaceLemmas.{of_kept}
+use Rattle.site_openings.proofs.SinkLemmas.{unused_sinks}
 
 places_are : (inputs : List InputConf) → places_of inputs ≡ at_of (map input_party inputs)
 places_are [] = refl
@@ -184,3 +185,19 @@ module _ {S : Type 0} (left : S → Option (List Scripted)) (faults : S → ℕ)
     pub any_sink : (m : ℕ) (stopped : Stopped) → names ≡ sink_names parties → SinksStopped m names stopped b c → IsRefused left faults conf (sink_stopped conf.order_log stopped) a d
     any_sink m (At i) named s = no_sink m i named s
     any_sink m Memory named s = no_memory_then m named s
+
+-- what is out, before anything was done with it
+module _ {S K : Type 0} (left : S → Option (List Scripted)) (faults : S → ℕ) (held : K → Option (List ℕ)) (own_faults : K → ℕ) (conf : Conf) (sources : List S) (sinks : List K) (names : List (List ℕ)) (named : names ≡ sink_names (described_parties conf)) (a b : Seen)
+    (out : AreOut left faults held own_faults conf sources sinks a b) where
+  sinks_named : SinksOut held own_faults names sinks out.0 b
+  sinks_named = subst (λ (l : List (List ℕ)). SinksOut held own_faults l sinks out.0 b) (sym named) out.2
+
+  pub sources_long : length sources ≡ length conf.inputs
+  sources_long = long_sources left faults conf sources a out.0 out.1
+
+  pub sinks_long : length sinks ≡ length names
+  sinks_long = sym (same_length (Begins sink_held sink_faults sink_openings sink_out held own_faults nothing_held out.0.sink) 0 names sinks sinks_named.all.each)
+
+  pub refused_unused : (c d : Seen) → SinksBack held own_faults names sinks b c → SourcesBack left faults (places_of conf.inputs) sources c d → IsRefused left faults conf NoMemory a d
+  refused_unused c d k r =
+      any_sink left faults conf sources names a out.0 c d out.1 r (k.rest.places ∙ out.2.rest.places) (length names) Memory named (unused_sinks held own_faults names sinks out.0 b c sinks_named k)

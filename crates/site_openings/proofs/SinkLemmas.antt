@@ -1,17 +1,18 @@
 -- Sinks go out and come back.
 use Rattle.std.proofs.Common.{◌≡◌, inl, inr, ℕ, zero, suc, ◌+◌, ◌≤◌, ◌<◌, Bool, true, false, cond, List, [], ◌∷◌, ◌++◌, length, take, get_or, Option, Some, None, refl, ap, sym, subst, ◌∙◌, arith, add-zero}
-use Rattle.std.specs.Prelude.{IfSome, IsSome, nat_lt, Ok, Err}
+use Rattle.std.specs.Prelude.{IfSome, IsSome, nat_lt, Ok, Err, bytes_eq}
+use Rattle.std.proofs.lemmas.List.{take_all}
 use Rattle.site_io.specs.Seen.{Seen, SinkSeen, SinkGoesOut, SinkComesBack, ChangesSink}
 use Rattle.call_spec.specs.Names.{times, has}
 use Rattle.call_spec.specs.Counts.{SinkKept}
 use Rattle.call_spec.specs.Leaves.{KeepsHeld}
-use Rattle.call_spec.proofs.NameLemmas.{zero_or, same_or, itself, one_if, times_more, times_take, has_some}
+use Rattle.call_spec.proofs.NameLemmas.{zero_or, same_or, itself, one_if, times_more, times_take, has_none, has_some}
 use Rattle.site_openings.specs.declared.stopped.Stopped.{Stopped}
 use Rattle.site_openings.specs.declared.stopped.Stopped.TheVariants.{At, Memory}
 use Rattle.site_openings.specs.Out.{AreDistinct, Kept, GoesOut, ComesBack}
 use Rattle.site_openings.specs.Sinks.{sink_held, sink_faults, sink_openings, sink_out, nothing_held, ChangesSinks, SinksOut, SinksBack, OpensSink, SinksStopped}
-use Rattle.site_openings.proofs.OutLemmas.{is_told, none_out, out_more, shows_start, others_same}
-use Rattle.site_openings.proofs.OpenLemmas.{BackSoFar, taken_next, number_is, still_out, counts_at, counts_memory}
+use Rattle.site_openings.proofs.OutLemmas.{is_told, none_out, out_more, refused_counts, shows_start, others_same, untried}
+use Rattle.site_openings.proofs.OpenLemmas.{BackSoFar, taken_next, number_is, still_out, counts_at, counts_memory, no_count, no_mark}
 
 some_empty : (o : Option (List ℕ)) → IsSome o → IfSome o (λ octets. octets ≡ []) → o ≡ Some []
 some_empty None s e = absurd (cc)
@@ -143,3 +144,26 @@ module _ {K : Type 0} (held : K → Option (List ℕ)) (faults : K → ℕ) wher
             rest = rest_all d n.1.0 false n.1.0 n.1.1 n.1.2 n.1.3 back;
           },
         )
+
+  -- all went out and came back, and nothing was done with them
+  pub unused_sinks : (names : List (List ℕ)) (sinks : List K) (a b c : Seen) → SinksOut held faults names sinks a b → SinksBack held faults names sinks b c → SinksStopped (length names) names Memory a c
+  unused_sinks names sinks a b c o r =
+      let same : take (length names) names ≡ names = take_all (length names) names (omega arith) in
+      let none = untried sink_faults sink_openings sink_out (b.sink []) in
+      record {
+        tried = omega arith;
+        counts = λ p.
+            subst (λ (l : List (List ℕ)). SinkKept (times p l) false (a.sink p) (c.sink p)) (sym same)
+            (of_kept (times p names) false (a.sink p) (c.sink p)
+            (subst (λ m. Kept sink_faults sink_openings sink_out m false (a.sink p) (c.sink p)) (ap (λ k. times p names + k) (no_count p []) ∙ add-zero (times p names))
+            (subst (λ f. Kept sink_faults sink_openings sink_out (times p names + cond (bytes_eq p []) 0 0) f (a.sink p) (c.sink p)) (no_mark p [])
+            (refused_counts sink_held sink_faults sink_openings sink_out held faults nothing_held names sinks [] 0 false a.sink b.sink b.sink c.sink o.all none (λ q ne. refl) r.all p))));
+        held = λ p. subst (λ (l : List (List ℕ)). KeepsHeld (has p l) (a.sink p) (c.sink p)) (sym same) (elim (zero_or (times p names)) [
+          | inl out ↦ (
+              let s = others_same sink_held sink_faults sink_openings sink_out held faults nothing_held names sinks [] 0 false a.sink b.sink b.sink c.sink o.all none (λ q ne. refl) r.all p out in
+              subst (λ e. KeepsHeld e (a.sink p) (c.sink p)) (sym (has_none p names out)) (ap sink_held (s.0 ∙ s.1)))
+          | inr some ↦ subst (λ e. KeepsHeld e (a.sink p) (c.sink p)) (sym (has_some p names some))
+              (λ octets is. inr (shows_start sink_held sink_faults sink_openings sink_out held faults nothing_held names sinks [] 0 false a.sink b.sink b.sink c.sink o.all none (λ q ne. refl) r.all p some octets is))
+        ]);
+        rest = record { texts = r.rest.texts ∙ o.rest.texts; places = r.rest.places ∙ o.rest.places; say = r.rest.say ∙ o.rest.say };
+      }

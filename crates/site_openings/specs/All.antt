@@ -7,8 +7,11 @@ use Rattle.site_io.specs.Seen.{Seen}
 use Rattle.call_spec.specs.Came.{Refusal}
 use Rattle.call_spec.specs.Came.Refusal.{NoSource, NoLog, NoOutput, NoMemory}
 use Rattle.call_spec.specs.Came.Came.{Refused}
+use Rattle.call_spec.specs.Plan.{described_parties}
 use Rattle.call_spec.specs.Plan.Plan.{Described}
-use Rattle.call_spec.specs.Leaves.{Comes}
+use Rattle.call_spec.specs.Leaves.{Comes, sink_names}
+use Rattle.site_openings.specs.Places.{places_of, SourcesOut}
+use Rattle.site_openings.specs.Sinks.{SinksOut}
 use Rattle.site_openings.specs.declared.stopped.Stopped.{Stopped}
 use Rattle.site_openings.specs.declared.stopped.Stopped.TheVariants.{At, Memory}
 use Rattle.site_openings.specs.declared.all.Unopened.{Unopened}
@@ -34,6 +37,11 @@ source_stopped Memory = NoMemory
 abbrev pub sink_stopped : Option (List ℕ) → Stopped → Refusal
 sink_stopped log (At i) = sink_refusal log i
 sink_stopped log Memory = NoMemory
+
+module _ {S K : Type 0} (left : S → Option (List Scripted)) (faults : S → ℕ) (held : K → Option (List ℕ)) (sink_faults : K → ℕ) where
+  -- the sources of a description went out, and then its sinks
+  abbrev pub AreOut : Conf → List S → List K → Seen → Seen → Type 0
+  AreOut conf sources sinks old new = (mid : Seen) × SourcesOut left faults (places_of conf.inputs) sources old mid × SinksOut held sink_faults (sink_names (described_parties conf)) sinks mid new
 
 module _ {S : Type 0} (left : S → Option (List Scripted)) (faults : S → ℕ) where
   -- what comes of a call whose run was refused so, whatever its elements are, before anything is said

@@ -1,10 +1,11 @@
 // All sources and sinks of a run.
 ghost use Rattle.std.specs.Prelude.{◌≡◌, ◌≤◌, ℕ, List, IfOk, IfErr, length};
 ghost use Rattle.site_io.specs.Seen.{Seen};
+ghost use Rattle.call_spec.specs.Came.Refusal.{NoMemory};
 ghost use Rattle.call_spec.specs.Leaves.{sink_names};
 ghost use Rattle.call_spec.specs.Names.{times};
 ghost use Rattle.call_spec.specs.Plan.{described_parties};
-ghost use Rattle.site_openings.specs.All.{IsRefused, refusal_of, sink_refusal, sink_stopped, source_stopped};
+ghost use Rattle.site_openings.specs.All.{AreOut, IsRefused, refusal_of, sink_refusal, sink_stopped, source_stopped};
 ghost use Rattle.site_openings.specs.Out.{AreDistinct};
 ghost use Rattle.site_openings.specs.Places.{places_of, SourcesBack, SourcesOut};
 ghost use Rattle.site_openings.specs.Sinks.{SinksBack, SinksOut};
@@ -113,4 +114,19 @@ pub fn back_all<S: Site>(conf: &Conf, names: &[Text], opened: Opened<S::Src, S::
     let Opened { sources, sinks } = opened;
     back_sinks(names, sinks, site);
     back_sources(conf.inputs.as_slice(), sources, site);
+}
+
+/// Gives back what was opened for a run that never began, since memory was wanted. It takes no memory.
+pub fn back_unused<S: Site>(
+    conf: &Conf,
+    names: &[Text],
+    opened: Opened<S::Src, S::Out>,
+    site: &mut S,
+)
+    requires named { names.now ≡ sink_names (described_parties conf.now) }
+    requires out { (old : Seen) × AreOut S.Src.left S.Src.faults S.Out.held S.Out.faults conf.now opened.sources.items opened.sinks.items old (S.seen site.old) }
+    ensures { (old : Seen) → AreOut S.Src.left S.Src.faults S.Out.held S.Out.faults conf.now opened.sources.items opened.sinks.items old (S.seen site.old)
+        → IsRefused S.Src.left S.Src.faults conf.now NoMemory old (S.seen site.new) }
+{
+    back_all(conf, names, opened, site);
 }

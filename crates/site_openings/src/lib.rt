@@ -11,7 +11,7 @@ mod places;
 mod sinks;
 mod stopped;
 
-pub use all::{Opened, Unopened, back_all, open_all};
+pub use all::{Opened, Unopened, back_all, back_unused, open_all};
 pub use places::{back_sources, open_sources};
 pub use sinks::{back_sinks, open_sinks};
 pub use stopped::Stopped;

@@ -1,4 +1,4 @@
-use Rattle.std.proofs.Common.{ℕ, sym, subst, [], List}
+use Rattle.std.proofs.Common.{ℕ, inr, sym, subst, []}
 use Rattle.logged_output.specs.Entries.{entries_of}
 use Rattle.logged_output.specs.Logged.{Took}
 use Rattle.logged_output.proofs.EntryLemmas.{takes_none}
@@ -39,3 +39,6 @@ returns-in-NotYet-clause-right g c = brings_right g.S.Source.left g.S.Source.fau
 
 pub returns-in-Ended-clause-right : goal.returns-in-Ended-clause-right
 returns-in-Ended-clause-right g c = brings_right g.S.Source.left g.S.Source.faults c.args.input.now c.next.new.self answer.Ended c.requires c.in-Ended.ensures.brings
+
+pub returns-in-NotYet-clause-nothing : goal.returns-in-NotYet-clause-nothing
+returns-in-NotYet-clause-nothing g c same = inr (c.args.input.now, c.requires, c.in-NotYet.ensures.brings)

@@ -1,4 +1,4 @@
-use Rattle.std.proofs.Common.{[], ◌++◌}
+use Rattle.std.proofs.Common.{[]}
 use Rattle.logged_output.specs.Logged.{Took}
 use Rattle.logged_output.proofs.EntryLemmas.{takes_none}
 use Rattle.input_turns.proofs.TurnLemmas.{all_none, follows_then}
@@ -9,6 +9,12 @@ loop-init g c = (c.requires, ([], all_none g.S.Source.left g.S.Source.faults c.a
 
 pub loop-preserved : goal.loop-preserved
 loop-preserved g c = (
+  c.round.ensures.right,
+  follows_then g.S.Source.left g.S.Source.faults (Took g.T.MessageTexts.stands g.K.Sink.held g.K.Sink.faults) c.args.inputs.now.items c.loop.inputs.items c.round.new.inputs.items c.args.taker.now c.loop.taker c.round.new.taker c.loop.invariant.1 c.round.ensures.follows,
+)
+
+pub loop-preserved-then-not-round : goal.loop-preserved-then-not-round
+loop-preserved-then-not-round g c = (
   c.round.ensures.right,
   follows_then g.S.Source.left g.S.Source.faults (Took g.T.MessageTexts.stands g.K.Sink.held g.K.Sink.faults) c.args.inputs.now.items c.loop.inputs.items c.round.new.inputs.items c.args.taker.now c.loop.taker c.round.new.taker c.loop.invariant.1 c.round.ensures.follows,
 )

@@ -1,0 +1,5 @@
+pub mod InputLemmas
+pub mod SinkLemmas
+pub mod OutputLemmas
+pub mod RunLemmas
+pub mod ToldLemmas
