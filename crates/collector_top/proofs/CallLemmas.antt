@@ -1,65 +1,39 @@
 -- What a call promises, from what came and what was said.
-use Rattle.std.proofs.Common.{◌≡◌, ◌≢◌, inl, inr, ℕ, ◌+◌, ◌<◌, ◌≤◌, Bool, true, false, cond, max, List, [], ◌∷◌, ◌++◌, map, Option, Some, None, refl, ap, sym, subst, ◌∙◌, arith, append-nil}
+use Rattle.std.proofs.Common.{◌≡◌, ◌≢◌, inl, inr, ℕ, true, false, cond, max, List, [], ◌∷◌, ◌++◌, Option, Some, refl, ap, sym, subst, ◌∙◌, arith, append-nil}
 use Rattle.std.specs.Prelude.{Result, Ok, Err, ◌||◌, is_some}
 use Rattle.arrival_spec.specs.declared.event.Scripted.{Scripted}
 use Rattle.site_io.specs.declared.outside.OutsideFault.{OutsideFault}
-use Rattle.site_io.specs.Seen.{Seen, TextSeen, PlaceSeen, SinkSeen, SaidSeen, ChangesSay, ChangesPlace, ChangesSink, OpensSource, OpensSink, SourceGoesOut, SourceComesBack, SinkGoesOut, SinkComesBack, PlaceRefuses, SinkRefuses}
+use Rattle.site_io.specs.Seen.{Seen, TextSeen, PlaceSeen, SinkSeen, ChangesPlace, ChangesSink, SourceGoesOut, SourceComesBack, SinkGoesOut, SinkComesBack, PlaceRefuses, SinkRefuses}
 use Rattle.words_spec.specs.Commands.{Command}
 use Rattle.words_spec.specs.Commands.Command.{Direct, Check}
 use Rattle.call_spec.specs.declared.end.InputEnd.{InputEnd}
 use Rattle.call_spec.specs.Names.{times, has}
-use Rattle.call_spec.specs.Counts.{MovesBy, TextKept, PlaceKept, SinkKept}
-use Rattle.call_spec.specs.Ends.{TakenFrom, source_failed, wants_memory, has_failed, HoldsAs}
-use Rattle.call_spec.specs.Pairs.{Each}
-use Rattle.call_spec.specs.Came.{Came, InputCame}
-use Rattle.call_spec.specs.Came.Refusal.{NoSource, NoOutput, NoMemory, NoText, BadDescription, BadElements}
+use Rattle.call_spec.specs.Counts.{TextKept, PlaceKept, SinkKept}
+use Rattle.call_spec.specs.Ends.{source_failed, wants_memory, has_failed, HoldsAs}
 use Rattle.call_spec.specs.Came.Came.{BadWords, Fine, Refused}
 use Rattle.call_spec.specs.Came.Came.{Ran as RanCame}
 use Rattle.call_spec.specs.Texts.{Judges}
-use Rattle.call_spec.specs.Leaves.{failed_text, refused_place, refused_sink, emptied_sinks, IsRefusal, KeepsHeld, Leaves, Comes, RunLeaves, Gave}
 use Rattle.call_spec.specs.Lines as lines
 use Rattle.call_spec.specs.Status as codes
-use Rattle.call_spec.specs.Lines.{Said, lines_of, input_line, sink_line, fine_text, usage_text}
-use Rattle.call_spec.specs.Status.{status_of, end_code, fault_code, said_code, wanted_code}
-use Rattle.call_spec.specs.Plan.{Plan, in_name, out_name, no_parties, direct_parties}
+use Rattle.call_spec.specs.Lines.{input_line, sink_line, fine_text, usage_text}
+use Rattle.call_spec.specs.Status.{end_code, fault_code, said_code, wanted_code}
+use Rattle.call_spec.specs.Plan.{in_name, out_name, no_parties, direct_parties}
 use Rattle.call_spec.specs.Plan.Plan.{Nothing, OneFile}
 use Rattle.call_spec.specs.Call.{MayCome, IsOfDirect, Calls}
 use Rattle.file_lines.specs.declared.run.Ended.{Ended}
 use Rattle.file_lines.specs.Run.{Ran}
 use Rattle.collector_top.specs.declared.direct.Unopened.{Unopened}
 use Rattle.collector_top.specs.declared.direct.Unopened.TheVariants as unopened
-use Rattle.collector_top.specs.declared.verdict.Refusal.{Refusal}
-use Rattle.collector_top.specs.declared.verdict.Refusal.TheVariants as refusal
+use Rattle.described_texts.specs.declared.verdict.Refusal.{Refusal}
+use Rattle.described_texts.specs.Read.{reason_of, CountsTexts, KeepsRest}
+use Rattle.described_texts.specs.Reports.{ReportsRefusal}
+use Rattle.described_texts.proofs.KeptLemmas.{still, unsunk, unread, failed_here, failed_away, calls_said, calls_refused, comes_fine, comes_refused}
 use Rattle.run_lines.specs.Says.{Says}
 use Rattle.collector_top.specs.Direct.{refusal_of, unopened_line, unopened_code, one_run, CameToRun, CameToRefusal}
-use Rattle.collector_top.specs.Check.{reason_of, meant, refusal_line, refusal_code, OneFails, CountsTexts, KeepsRest}
-use Rattle.collector_top.proofs.OpenLemmas.{same_or, still, unsunk, unread, by_name, failed_here, failed_away, marked_here, marked_away, place_back, place_refused, sink_back, sink_refused, place_taken, place_ends, place_left, sink_holds_as, or_none}
+use Rattle.call_spec.proofs.NameLemmas.{same_or}
+use Rattle.collector_top.proofs.OpenLemmas.{by_name, marked_here, marked_away, place_back, place_refused, sink_back, sink_refused, place_taken, place_ends, place_left, sink_holds_as, or_none}
 
 module _ {S : Type 0} (left : S → Option (List Scripted)) (faults : S → ℕ) where
-  -- what was said changes nothing that came
-  comes_still : (place out : List ℕ) (came : Came) (a b c : Seen) → ChangesSay b c → Comes left faults (OneFile place out) came a b → Comes left faults (OneFile place out) came a c
-  comes_still place out came a b c ch k =
-      subst (λ (f : List ℕ → TextSeen). Comes left faults (OneFile place out) came a (record c { text = f })) (sym ch.texts)
-      (subst (λ (f : List ℕ → PlaceSeen). Comes left faults (OneFile place out) came a (record c { text = b.text; place = f })) (sym ch.places)
-      (subst (λ (f : List ℕ → SinkSeen). Comes left faults (OneFile place out) came a (record c { text = b.text; place = b.place; sink = f })) (sym ch.sinks)
-      (record { texts = k.texts; places = k.places; sinks = k.sinks; leaves = leaves_still came k.leaves })))
-    where
-      leaves_still : (came : Came) → Leaves left faults (OneFile place out) came a b → Leaves left faults (OneFile place out) came a (record c { text = b.text; place = b.place; sink = b.sink })
-      leaves_still BadWords l = tt
-      leaves_still Fine l = tt
-      leaves_still (Refused r n m) l = l
-      leaves_still (RanCame run) l = record { gave = gives run.inputs l.gave; ordered = tt; logged = l.logged; stages = l.stages; holds = l.holds; counted = tt }
-        where
-          gives : (inputs : List InputCame) → Each (Gave left faults (OneFile place out) a b) 0 (direct_parties place out).inputs inputs
-              → Each (Gave left faults (OneFile place out) a (record c { text = b.text; place = b.place; sink = b.sink })) 0 (direct_parties place out).inputs inputs
-          gives [] g = absurd g
-          gives (x ∷ inputs) g = (record { taken = g.0.taken; unfailed = g.0.unfailed; ends = g.0.ends }, rest inputs g.1)
-            where
-              rest : (inputs : List InputCame) → Each (Gave left faults (OneFile place out) a b) 1 [] inputs
-                  → Each (Gave left faults (OneFile place out) a (record c { text = b.text; place = b.place; sink = b.sink })) 1 [] inputs
-              rest [] g = tt
-              rest (y ∷ inputs) g = absurd g
-
   -- ---- direct: before its lines are said
 
   -- nothing was opened
@@ -243,17 +217,8 @@ module _ {S : Type 0} (left : S → Option (List Scripted)) (faults : S → ℕ)
       → (said : Result (Unit {0}) OutsideFault) × Says b c (input_line in_name ended.input ++ sink_line out_name ended.output) said × (status ≡ max (max (end_code ended.input) (fault_code ended.output)) (said_code said))
       → Calls left faults (Direct place out) a c status
   calls_ran place out ended a b c status k s =
-      let came = RanCame (one_run k.0 k.1 ended) in (
-        OneFile place out,
-        came,
-        s.0,
-        record {
-          may = (refl, tt);
-          comes = comes_still place out came a b c s.1.rest k.2;
-          says = subst (λ (x : SaidSeen). Said s.0 x c.say (lines_of (OneFile place out) came)) k.3 (subst (λ t. Said s.0 b.say c.say t) (one_line ended.input ended.output) s.1.text_said);
-          answers = s.2 ∙ most (end_code ended.input) (fault_code ended.output) (said_code s.0);
-        },
-      )
+      calls_said left faults (MayCome (Direct place out)) (OneFile place out) (RanCame (one_run k.0 k.1 ended)) a b c s.0 status (refl, tt) k.2 k.3
+      (subst (λ (t : List ℕ). Says b c t s.0) (one_line ended.input ended.output) s.1) (s.2 ∙ most (end_code ended.input) (fault_code ended.output) (said_code s.0))
 
   -- the line and the code of a refusal
   refused_line : (place out : List ℕ) (r : Unopened) → unopened_line r ≡ lines.refusal_line (direct_parties place out) (refusal_of r)
@@ -271,130 +236,25 @@ module _ {S : Type 0} (left : S → Option (List Scripted)) (faults : S → ℕ)
   may_refuse unopened.NoSink n m = tt
   may_refuse unopened.Memory n m = tt
 
-  pub calls_refused : (place out : List ℕ) (r : Unopened) (a b c : Seen) (status : ℕ) → CameToRefusal left faults place out a b r
+  pub calls_unopened : (place out : List ℕ) (r : Unopened) (a b c : Seen) (status : ℕ) → CameToRefusal left faults place out a b r
       → (said : Result (Unit {0}) OutsideFault) × Says b c (unopened_line r) said × (status ≡ max (unopened_code r) (wanted_code said)) → Calls left faults (Direct place out) a c status
-  calls_refused place out r a b c status k s =
-      let came = Refused (refusal_of r) k.0 k.1 in (
-        OneFile place out,
-        came,
-        s.0,
-        record {
-          may = (refl, may_refuse r k.0 k.1);
-          comes = comes_still place out came a b c s.1.rest k.2;
-          says = subst (λ (x : SaidSeen). Said s.0 x c.say (lines_of (OneFile place out) came)) k.3 (subst (λ t. Said s.0 b.say c.say t) (refused_line place out r) s.1.text_said);
-          answers = s.2 ∙ ap (λ n. max n (wanted_code s.0)) (refused_code r);
-        },
-      )
+  calls_unopened place out r a b c status k s =
+      calls_refused left faults (MayCome (Direct place out)) (OneFile place out) (refusal_of r) k.0 k.1 a b c status (refl, may_refuse r k.0 k.1) k.2 k.3
+      (s.0, subst (λ (t : List ℕ). Says b c t s.0) (refused_line place out r) s.1, s.2 ∙ ap (λ n. max n (wanted_code s.0)) (refused_code r))
 
   -- ---- check, and refused words
 
-  -- places and sinks that are as they were
-  places_still : (a b : Seen) → b.place ≡ a.place → (p : List ℕ) → PlaceKept 0 false (a.place p) (b.place p)
-  places_still a b e p = subst (λ (f : List ℕ → PlaceSeen). PlaceKept 0 false (a.place p) (f p)) (sym e) (still (a.place p))
-
-  sinks_still : (a b : Seen) → b.sink ≡ a.sink → (p : List ℕ) → SinkKept 0 false (a.sink p) (b.sink p)
-  sinks_still a b e p = subst (λ (f : List ℕ → SinkSeen). SinkKept 0 false (a.sink p) (f p)) (sym e) (unsunk (a.sink p))
-
-  texts_still : (a b : Seen) → b.text ≡ a.text → (p : List ℕ) → TextKept false (a.text p) (b.text p)
-  texts_still a b e p = subst (λ (f : List ℕ → TextSeen). TextKept false (a.text p) (f p)) (sym e) (unread (a.text p))
-
   pub calls_fine : (file : List ℕ) (a b c : Seen) (status : ℕ) → Judges a.text file (Ok tt) → b.text ≡ a.text → KeepsRest a b
       → (said : Result (Unit {0}) OutsideFault) × Says b c fine_text said × (status ≡ said_code said) → Calls left faults (Check file) a c status
-  calls_fine file a b c status judged texts keeps s = (
-    Nothing,
-    Fine,
-    s.0,
-    record {
-      may = (refl, judged);
-      comes = record { texts = texts_still a c (s.1.rest.texts ∙ texts); places = places_still a c (s.1.rest.places ∙ keeps.places); sinks = sinks_still a c (s.1.rest.sinks ∙ keeps.sinks); leaves = tt };
-      says = subst (λ (x : SaidSeen). Said s.0 x c.say fine_text) keeps.say s.1.text_said;
-      answers = s.2;
-    },
-  )
+  calls_fine file a b c status judged texts keeps s = calls_said left faults (MayCome (Check file)) Nothing Fine a b c s.0 status (refl, judged) (comes_fine left faults a b texts keeps) keeps.say s.1 s.2
 
-  -- the text that failed, if one did
-  texts_counted : (a b c : Seen) (r : Refusal) → CountsTexts {T = Unit {0}} a.text b.text (Err r) → c.text ≡ b.text → (p : List ℕ) → TextKept (has p (failed_text (reason_of r))) (a.text p) (c.text p)
-  texts_counted a b c (refusal.NoText name) o e p =
-      subst (λ (f : List ℕ → TextSeen). TextKept (has p (name ∷ [])) (a.text p) (f p)) (sym e) (elim (same_or p name) [
-        | inl x ↦ subst (λ q. TextKept (has q (name ∷ [])) (a.text q) (b.text q)) (sym x.1) (subst (λ h. TextKept h (a.text name) (b.text name)) (sym (failed_here name)) (record { octets = o.refuses.octets; faults = (o.refuses.later, o.refuses.rose) }))
-        | inr d ↦ subst (λ h. TextKept h (a.text p) (b.text p)) (sym (failed_away name p d.1)) (subst (λ (x : TextSeen). TextKept false (a.text p) x) (sym (o.others p d.1)) (unread (a.text p)))
-      ])
-  texts_counted a b c (refusal.BadDescription f) o e p = texts_still a c (e ∙ o) p
-  texts_counted a b c (refusal.BadElements name f) o e p = texts_still a c (e ∙ o) p
-  texts_counted a b c refusal.Memory o e p = texts_still a c (e ∙ o) p
-
-  no_place : (r : Refusal) → refused_place no_parties (reason_of r) ≡ []
-  no_place (refusal.NoText name) = refl
-  no_place (refusal.BadDescription f) = refl
-  no_place (refusal.BadElements name f) = refl
-  no_place refusal.Memory = refl
-
-  no_sink : (r : Refusal) → refused_sink no_parties (reason_of r) ≡ []
-  no_sink (refusal.NoText name) = refl
-  no_sink (refusal.BadDescription f) = refl
-  no_sink (refusal.BadElements name f) = refl
-  no_sink refusal.Memory = refl
-
-  no_emptied : (r : Refusal) → emptied_sinks no_parties (reason_of r) 0 ≡ []
-  no_emptied (refusal.NoText name) = refl
-  no_emptied (refusal.BadDescription f) = refl
-  no_emptied (refusal.BadElements name f) = refl
-  no_emptied refusal.Memory = refl
-
-  is_refusal : (r : Refusal) → IsRefusal no_parties (reason_of r) 0 0
-  is_refusal (refusal.NoText name) = (refl, refl)
-  is_refusal (refusal.BadDescription f) = (refl, refl)
-  is_refusal (refusal.BadElements name f) = (refl, refl)
-  is_refusal refusal.Memory = (omega arith, omega arith, inr refl)
-
-  judged_line : (r : Refusal) → refusal_line r ≡ lines.refusal_line no_parties (reason_of r)
-  judged_line (refusal.NoText name) = refl
-  judged_line (refusal.BadDescription f) = refl
-  judged_line (refusal.BadElements name f) = refl
-  judged_line refusal.Memory = refl
-
-  judged_code : (r : Refusal) → refusal_code r ≡ codes.refusal_code (reason_of r)
-  judged_code (refusal.NoText name) = refl
-  judged_code (refusal.BadDescription f) = refl
-  judged_code (refusal.BadElements name f) = refl
-  judged_code refusal.Memory = refl
-
-  pub calls_judged : (file : List ℕ) (r : Refusal) (a b c : Seen) (status : ℕ) → Judges a.text file (Err (reason_of r)) → CountsTexts {T = Unit {0}} a.text b.text (Err r) → KeepsRest a b
-      → (said : Result (Unit {0}) OutsideFault) × Says b c (refusal_line r) said × (status ≡ max (refusal_code r) (wanted_code said)) → Calls left faults (Check file) a c status
-  calls_judged file r a b c status judged counts keeps s =
-      let places = s.1.rest.places ∙ keeps.places in
-      let sinks = s.1.rest.sinks ∙ keeps.sinks in (
-        Nothing,
-        Refused (reason_of r) 0 0,
-        s.0,
-        record {
-          may = (refl, judged);
-          comes = record {
-            texts = texts_counted a b c r counts s.1.rest.texts;
-            places = λ p. subst (λ (l : List (List ℕ)). PlaceKept 0 (has p l) (a.place p) (c.place p)) (sym (no_place r)) (places_still a c places p);
-            sinks = λ p. subst (λ (l : List (List ℕ)). SinkKept 0 (has p l) (a.sink p) (c.sink p)) (sym (no_sink r)) (sinks_still a c sinks p);
-            leaves = (
-              is_refusal r,
-              (λ p events is. ap (λ (f : List ℕ → PlaceSeen). (f p).left) places ∙ is),
-              λ p. subst (λ (l : List (List ℕ)). KeepsHeld (has p l) (a.sink p) (c.sink p)) (sym (no_emptied r)) (ap (λ (f : List ℕ → SinkSeen). (f p).held) sinks),
-            );
-          };
-          says = subst (λ (x : SaidSeen). Said s.0 x c.say (lines_of Nothing (Refused (reason_of r) 0 0))) keeps.say (subst (λ t. Said s.0 b.say c.say t) (judged_line r) s.1.text_said);
-          answers = s.2 ∙ ap (λ n. max n (wanted_code s.0)) (judged_code r);
-        },
-      )
+  pub calls_judged : (T : Type 0) (file : List ℕ) (r : Refusal) (a b c : Seen) (status : ℕ) → Judges a.text file (Err (reason_of r)) → CountsTexts {T = T} a.text b.text (Err r) → KeepsRest a b
+      → ReportsRefusal no_parties (reason_of r) b c status → Calls left faults (Check file) a c status
+  calls_judged T file r a b c status judged counts keeps s =
+      calls_refused left faults (MayCome (Check file)) Nothing (reason_of r) 0 0 a b c status (refl, judged) (comes_refused left faults T r a b counts keeps) keeps.say s
 
   -- words that are refused
   pub calls_words : (command : Command) (a b : Seen) (status : ℕ) → MayCome command a.text Nothing BadWords
       → ((said : Result (Unit {0}) OutsideFault) × Says a b usage_text said) → status ≡ 1 → Calls left faults command a b status
-  calls_words command a b status may s is = (
-    Nothing,
-    BadWords,
-    s.0,
-    record {
-      may = may;
-      comes = record { texts = texts_still a b s.1.rest.texts; places = places_still a b s.1.rest.places; sinks = sinks_still a b s.1.rest.sinks; leaves = tt };
-      says = s.1.text_said;
-      answers = is;
-    },
-  )
+  calls_words command a b status may s is =
+      calls_said left faults (MayCome command) Nothing BadWords a a b s.0 status may (record { texts = λ p. unread (a.text p); places = λ p. still (a.place p); sinks = λ p. unsunk (a.sink p); leaves = tt }) refl s.1 is

@@ -1,4 +1,3 @@
 pub mod OpenLemmas
 pub mod CallLemmas
-pub mod CheckLemmas
 pub mod WordLemmas

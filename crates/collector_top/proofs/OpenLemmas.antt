@@ -1,36 +1,17 @@
 -- One place and one sink name: opened, and given back.
-use Rattle.std.proofs.Common.{◌≡◌, ◌≢◌, ◌⊎◌, inl, inr, ℕ, ◌+◌, ◌<◌, ◌≤◌, Bool, true, false, cond, List, [], ◌∷◌, ◌++◌, take, Option, Some, None, refl, ap, sym, subst, ◌∙◌, arith, append-nil}
-use Rattle.std.specs.Prelude.{bytes_eq, ◌||◌, IfSome, IsSome, is_some}
+use Rattle.std.proofs.Common.{◌≡◌, ◌≢◌, inl, inr, ℕ, ◌+◌, ◌<◌, ◌≤◌, Bool, true, false, cond, List, [], ◌∷◌, ◌++◌, take, Option, Some, None, refl, ap, sym, subst, ◌∙◌, arith}
+use Rattle.std.specs.Prelude.{◌||◌, IfSome, IsSome}
 use Rattle.arrival_spec.specs.declared.event.Scripted.{Scripted}
-use Rattle.site_io.specs.Outside.{Rose, one_more}
-use Rattle.site_io.specs.Seen.{Seen, TextSeen, PlaceSeen, SinkSeen, SourceGoesOut, SourceComesBack, PlaceRefuses, SinkGoesOut, SinkComesBack, SinkRefuses}
+use Rattle.site_io.specs.Outside.{Rose}
+use Rattle.site_io.specs.Seen.{PlaceSeen, SinkSeen, SourceGoesOut, SourceComesBack, PlaceRefuses, SinkGoesOut, SinkComesBack, SinkRefuses}
 use Rattle.site_io.specs.Writes.{Grows}
-use Rattle.site_io.proofs.NamedRows.{bytes_eq_same, same_of_bytes_eq}
 use Rattle.call_spec.specs.declared.end.InputEnd.{InputEnd}
 use Rattle.call_spec.specs.declared.end.InputEnd.TheVariants as end
-use Rattle.call_spec.specs.Names.{times, has, after_openings}
-use Rattle.call_spec.specs.Counts.{MovesBy, TextKept, PlaceKept, SinkKept}
-use Rattle.call_spec.specs.Ends.{TakenFrom, IsNothingLeft, EndsReading, GrowsAs, wants_memory, Holds, HoldsAs}
-
--- names are equal or not
-pub same_or : (p q : List ℕ) → ((bytes_eq p q ≡ true) × (p ≡ q)) ⊎ ((bytes_eq p q ≡ false) × (p ≢ q))
-same_or p q = elim (bytes_eq p q) as (λ b. bytes_eq p q ≡ b → ((b ≡ true) × (p ≡ q)) ⊎ ((b ≡ false) × (p ≢ q))) [ true ↦ λ h. inl (refl, same_of_bytes_eq p q h) | false ↦ λ h. inr (refl, λ e. (let t : true ≡ false = sym (bytes_eq_same p q e) ∙ h in cc)) ] refl
-
-pub itself : (p : List ℕ) → bytes_eq p p ≡ true
-itself p = bytes_eq_same p p refl
-
-none_after : (c : ℕ) → after_openings 0 c ≡ c
-none_after c = omega arith
-
--- nothing was tried
-pub still : (x : PlaceSeen) → PlaceKept 0 false x x
-still x = record { out = refl; openings = sym (none_after x.openings); faults = refl; same = λ _. refl }
-
-pub unsunk : (x : SinkSeen) → SinkKept 0 false x x
-unsunk x = record { out = refl; openings = sym (none_after x.openings); faults = refl; same = λ _. refl }
-
-pub unread : (x : TextSeen) → TextKept false x x
-unread x = record { octets = refl; faults = refl }
+use Rattle.call_spec.specs.Names.{times, has}
+use Rattle.call_spec.specs.Counts.{MovesBy, PlaceKept, SinkKept}
+use Rattle.call_spec.specs.Ends.{TakenFrom, IsNothingLeft, EndsReading, GrowsAs, Holds, HoldsAs}
+use Rattle.call_spec.proofs.NameLemmas.{same_or}
+use Rattle.described_texts.proofs.KeptLemmas.{failed_here, failed_away}
 
 -- one name was tried, and all others are as they were
 pub by_name : {X : Type 0} (P : ℕ → Bool → X → X → Type 0) (name : List ℕ) (failed : List (List ℕ)) (b : Bool) (old new : List ℕ → X) → ((x : X) → P 0 false x x) → has name failed ≡ b → ((q : List ℕ) → q ≢ name → has q failed ≡ false)
@@ -43,13 +24,6 @@ by_name {X} P name failed b old new none here away one others p =
       | inr d ↦ (let n : times p (name ∷ []) ≡ 0 = ap (λ c. cond c 1 0 + 0) d.0 in
           subst (λ m. P m (has p failed) (old p) (new p)) (sym n) (subst (λ c. P 0 c (old p) (new p)) (sym (away p d.1)) (subst (λ (x : X). P 0 false (old p) x) (sym (others p d.1)) (none (old p)))))
     ]
-
--- the one name that failed
-pub failed_here : (name : List ℕ) → has name (name ∷ []) ≡ true
-failed_here name = ap (λ b. b || false) (itself name)
-
-pub failed_away : (name q : List ℕ) → q ≢ name → has q (name ∷ []) ≡ false
-failed_away name q ne = elim (same_or q name) [ inl s ↦ absurd (ne s.1) | inr d ↦ ap (λ b. b || false) d.0 ]
 
 pub marked_here : (name : List ℕ) (b : Bool) → has name (cond b (name ∷ []) []) ≡ b
 marked_here name true = failed_here name

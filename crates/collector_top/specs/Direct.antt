@@ -4,7 +4,7 @@ use Rattle.arrival_spec.specs.declared.event.Scripted.{Scripted}
 use Rattle.site_io.specs.declared.outside.OutsideFault.TheVariants as fault
 use Rattle.site_io.specs.Seen.{Seen}
 use Rattle.call_spec.specs.declared.end.InputEnd.TheVariants as end
-use Rattle.call_spec.specs.Came.{Refusal, RunCame, Came}
+use Rattle.call_spec.specs.Came.{Refusal, RunCame}
 use Rattle.call_spec.specs.Came.Refusal.{NoSource, NoOutput, NoMemory}
 use Rattle.call_spec.specs.Came.Came.{Refused, Ran}
 use Rattle.call_spec.specs.Leaves.{Comes}

@@ -47,6 +47,7 @@ impl<S: Source> Input<S> {
         source: S,
     ) -> Result<Self, (WantOfMemory, S)>
         ensures new { IfOk result (λ input. HasGiven S.left S.faults source (settings_of conf.now) number [] [] input) }
+        ensures source { IfOk result (λ input. input.inlet.source ≡ source) }
         ensures open { IfOk result (λ input. input.end ≡ None) }
         ensures refused { IfErr result (λ refused. refused.1 ≡ source) }
     {

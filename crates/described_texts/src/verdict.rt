@@ -1,4 +1,4 @@
-// Why `check` tells a fault.
+// Why a description is refused.
 ghost use Rattle.std.specs.Prelude.{◌≡◌};
 
 use col_base::Text;
@@ -19,7 +19,7 @@ pub enum Refusal {
 }
 
 impl From<AllocError> for Refusal {
-    ghost use Rattle.collector_top.specs.declared.verdict.Refusal.TheVariants as refusal;
+    ghost use Rattle.described_texts.specs.declared.verdict.Refusal.TheVariants as refusal;
 
     ghost from_gives = { λ _ made. made ≡ refusal.Memory };
 

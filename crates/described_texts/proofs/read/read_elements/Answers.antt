@@ -1,7 +1,7 @@
 use Rattle.std.proofs.Common.{List, ℕ, Err, refl, subst, ◌∙◌}
-use Rattle.collector_top.specs.Check.{AddsFile}
-use Rattle.collector_top.proofs.CheckLemmas.{files_first, files_further, files_refused}
-use Rattle.collector_top.proofs.check.judge_files.Goals as goal
+use Rattle.described_texts.specs.Read.{AddsFile}
+use Rattle.described_texts.proofs.ReadLemmas.{files_first, files_further, files_refused}
+use Rattle.described_texts.proofs.read.read_elements.Goals as goal
 
 pub loop-name-init : goal.loop-name-init
 loop-name-init g c = record { table = files_first (g.S.Site.seen c.args.site.now).text c.in-Ok.table c.in-Ok.ensures; texts = refl; rest = record { places = refl; sinks = refl; say = refl } }
@@ -16,8 +16,8 @@ loop-name-preserved g c =
       rest = record { places = added.rest.places ∙ so.rest.places; sinks = added.rest.sinks ∙ so.rest.sinks; say = added.rest.say ∙ so.rest.say };
     }
 
-pub returns-in-Err-clause-judged : goal.returns-in-Err-clause-judged
-returns-in-Err-clause-judged g c =
+pub returns-in-Err-clause-err : goal.returns-in-Err-clause-err
+returns-in-Err-clause-err g c =
     let so = c.loop-name.invariant in
     files_refused _ _ c.args.names.now c.loop-name.name-index c.name-item.result c.loop-name.table c.add_file.new.table c.in-Err.refusal c.loop-name-test.true c.name-item.is so.texts so.table
     (subst (λ (n : List ℕ). AddsFile (g.S.Site.seen c.loop-name.site).text n c.loop-name.table c.add_file.new.table (Err c.in-Err.refusal)) c.as_str.ensures c.in-Err.ensures.adds)

@@ -1,5 +1,4 @@
-use Rattle.std.proofs.Common.{refl}
-use Rattle.collector_top.proofs.judged.say_refusal.Goals as goal
+use Rattle.described_texts.proofs.report.say_refusal.Goals as goal
 
 pub returns-in-BadDescription : goal.returns-in-BadDescription
 returns-in-BadDescription g c = rw c.in-BadDescription.is (c.say_line.ensures _ c.description_line.ensures)

@@ -1,52 +1,28 @@
--- What came of the steps of `check`.
+-- What came of the steps of reading a description and its element files.
 use Rattle.std.specs.Prelude.{ℕ, ◌≡◌, ◌≢◌, ⊤, List, Result, Ok, Err}
 use Rattle.text_spec.specs.declared.element.Element.{Element}
-use Rattle.config_spec.specs.First.{fault_text}
 use Rattle.config_spec.specs.Description.{description}
-use Rattle.element_spec.specs.Faults as elements
 use Rattle.element_spec.specs.Table.{text_added}
 use Rattle.site_io.specs.Seen.{Seen, TextSeen, TextRefuses}
 use Rattle.call_spec.specs.Came.{Refusal as Reason}
 use Rattle.call_spec.specs.Came.Refusal.{NoText, BadDescription, BadElements, NoMemory}
-use Rattle.call_spec.specs.Texts.{IsText, HasTable, Reaches, Breaks, Judges}
-use Rattle.call_spec.specs.Lines.{fine_text, memory_text, named_line, source_start, description_start, elements_head}
-use Rattle.collector_top.specs.declared.verdict.Refusal.{Refusal}
-use Rattle.collector_top.specs.declared.verdict.Refusal.TheVariants as refusal
+use Rattle.call_spec.specs.Texts.{IsText, Reaches, Breaks}
+use Rattle.described_texts.specs.declared.verdict.Refusal.{Refusal}
+use Rattle.described_texts.specs.declared.verdict.Refusal.TheVariants as refusal
 
+-- a refusal as the definitions have it
 abbrev pub reason_of : Refusal → Reason
 reason_of (refusal.NoText name) = NoText name
 reason_of (refusal.BadDescription fault) = BadDescription fault
 reason_of (refusal.BadElements name fault) = BadElements name fault
 reason_of refusal.Memory = NoMemory
 
--- a verdict as the definitions have it
-abbrev pub meant : Result (Unit {0}) Refusal → Result (Unit {0}) Reason
-meant (Ok done) = Ok done
-meant (Err r) = Err (reason_of r)
-
-abbrev pub refusal_line : Refusal → List ℕ
-refusal_line (refusal.NoText name) = named_line source_start name
-refusal_line (refusal.BadDescription fault) = named_line description_start (fault_text fault)
-refusal_line (refusal.BadElements name fault) = named_line (elements_head name) (elements.fault_text fault)
-refusal_line refusal.Memory = memory_text
-
-abbrev pub verdict_line : Result (Unit {0}) Refusal → List ℕ
-verdict_line (Ok done) = fine_text
-verdict_line (Err r) = refusal_line r
-
-abbrev pub refusal_code : Refusal → ℕ
-refusal_code (refusal.NoText name) = 3
-refusal_code (refusal.BadDescription fault) = 2
-refusal_code (refusal.BadElements name fault) = 2
-refusal_code refusal.Memory = 6
-
--- what came of element files in order
-abbrev pub JudgesFiles : (List ℕ → TextSeen) → List (List ℕ) → Result (Unit {0}) Refusal → Type 0
-JudgesFiles text names (Ok done) = (rows : List Element) × HasTable text names rows
-JudgesFiles text names (Err (refusal.NoText name)) = Reaches text names name
-JudgesFiles text names (Err (refusal.BadDescription fault)) = ⊥
-JudgesFiles text names (Err (refusal.BadElements name fault)) = Breaks text names name fault
-JudgesFiles text names (Err refusal.Memory) = ⊤
+-- why element files in order are refused
+abbrev pub RefusesFiles : (List ℕ → TextSeen) → List (List ℕ) → Refusal → Type 0
+RefusesFiles text names (refusal.NoText name) = Reaches text names name
+RefusesFiles text names (refusal.BadDescription fault) = ⊥
+RefusesFiles text names (refusal.BadElements name fault) = Breaks text names name fault
+RefusesFiles text names refusal.Memory = ⊤
 
 -- that text failed, and no other has changed
 pub record OneFails (name : List ℕ) (old new : List ℕ → TextSeen) : Type 0 where

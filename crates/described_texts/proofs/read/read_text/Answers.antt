@@ -1,5 +1,5 @@
-use Rattle.collector_top.proofs.CheckLemmas.{texts_same}
-use Rattle.collector_top.proofs.check.read_text.Goals as goal
+use Rattle.described_texts.proofs.ReadLemmas.{texts_same}
+use Rattle.described_texts.proofs.read.read_text.Goals as goal
 
 pub returns-in-Ok-clause-texts : goal.returns-in-Ok-clause-texts
 returns-in-Ok-clause-texts g c = texts_same c.args.name.now _ _ c.in-Ok.ensures.read.1 c.in-Ok.ensures.others.others

@@ -1,5 +1,5 @@
--- What came of `check`.
-use Rattle.std.proofs.Common.{◌≡◌, ◌≢◌, ℕ, suc, ◌+◌, ◌<◌, inl, inr, List, [], ◌∷◌, ◌++◌, length, take, drop, get_or, refl, ap, sym, subst, ◌∙◌, add-one, drop-cons, take-suc, take-append-drop, arith}
+-- What came of reading element files.
+use Rattle.std.proofs.Common.{◌≡◌, ◌≢◌, ℕ, suc, ◌+◌, ◌<◌, inl, inr, List, [], ◌∷◌, ◌++◌, length, take, drop, get_or, refl, ap, sym, subst, ◌∙◌, add-one, drop-cons, take-suc, take-append-drop}
 use Rattle.std.specs.Prelude.{Result, Ok, Err, bytes_eq}
 use Rattle.std.proofs.Math.Path.{fun_ext}
 use Rattle.std.proofs.lemmas.Bool.{cases_Bool}
@@ -10,11 +10,11 @@ use Rattle.element_spec.specs.declared.fault.TableFault.{TableFault}
 use Rattle.element_spec.specs.Faults.{and_then}
 use Rattle.element_spec.specs.Table.{text_added, texts_added, element_table}
 use Rattle.site_io.specs.Seen.{TextSeen}
-use Rattle.collector_top.specs.declared.verdict.Refusal.{Refusal}
-use Rattle.collector_top.specs.declared.verdict.Refusal.TheVariants as refusal
+use Rattle.described_texts.specs.declared.verdict.Refusal.{Refusal}
+use Rattle.described_texts.specs.declared.verdict.Refusal.TheVariants as refusal
 use Rattle.call_spec.specs.Pairs.{Each}
 use Rattle.call_spec.specs.Texts.{IsText, AreTexts, HasTable, Reaches, Breaks}
-use Rattle.collector_top.specs.Check.{JudgesFiles, AddsFile}
+use Rattle.described_texts.specs.Read.{RefusesFiles, AddsFile}
 
 -- what is left begins with this item
 left_begins : {X : Type 0} (items : List X) (i : ℕ) (item : X) → i < length items → item ≡ get_or items i item → drop i items ≡ item ∷ drop (i + 1) items
@@ -81,7 +81,7 @@ begins names i name lt is = sym (take-append-drop i names) ∙ ap (λ l. take i 
 
 -- an element file that is refused
 pub files_refused : (old mid : List ℕ → TextSeen) (names : List (List ℕ)) (i : ℕ) (name : List ℕ) (rows now : List Element) (r : Refusal) → i < length names → name ≡ get_or names i name → mid ≡ old → HasTable old (take i names) rows
-    → AddsFile mid name rows now (Err r) → JudgesFiles old names (Err r)
+    → AddsFile mid name rows now (Err r) → RefusesFiles old names r
 files_refused old mid names i name rows now (refusal.NoText n) lt is same has adds =
     subst (λ (x : List ℕ). Reaches old names x) (sym adds) (record { before = take i names; after = drop (i + 1) names; whole = begins names i name lt is; rows = rows; table = has })
 files_refused old mid names i name rows now (refusal.BadDescription fault) lt is same has adds = absurd adds

@@ -1,12 +1,14 @@
-// The line and the status of what came of `check`.
-ghost use Rattle.std.specs.Prelude.{◌≡◌, ℕ, List, Result, IfOk, max};
+// The line and the status of what came of the texts of a description.
+ghost use Rattle.std.specs.Prelude.{◌≡◌, ℕ, List, Result, IfOk};
 ghost use Rattle.site_io.specs.declared.outside.OutsideFault.{OutsideFault};
 ghost use Rattle.config_spec.specs.First.{fault_text};
 ghost use Rattle.element_spec.specs.Faults as elements;
-ghost use Rattle.call_spec.specs.Lines.{named_line, elements_head, fine_text, description_start};
-ghost use Rattle.call_spec.specs.Status.{said_code, wanted_code};
+ghost use Rattle.call_spec.specs.Lines.{named_line, elements_head, fine_text, description_start, refusal_line};
+ghost use Rattle.call_spec.specs.Plan.{no_parties};
+ghost use Rattle.call_spec.specs.Status.{said_code, refusal_code};
 ghost use Rattle.run_lines.specs.Says.{Says};
-ghost use Rattle.collector_top.specs.Check.{refusal_line, refusal_code};
+ghost use Rattle.described_texts.specs.Read.{reason_of};
+ghost use Rattle.described_texts.specs.Reports.{ReportsRefusal};
 
 use crate::verdict::Refusal;
 use col_base::{Octets, Text};
@@ -47,7 +49,7 @@ fn say_line<S: Site>(line: Result<Octets, AllocError>, site: &mut S) -> Result<(
 
 /// Says the line of a refusal.
 fn say_refusal<S: Site>(alloc: Global, refusal: &Refusal, site: &mut S) -> Result<(), OutsideFault>
-    ensures { Says (S.seen site.old) (S.seen site.new) (refusal_line refusal.now) result }
+    ensures { Says (S.seen site.old) (S.seen site.new) (refusal_line no_parties (reason_of refusal.now)) result }
 {
     match refusal {
         Refusal::NoText(name) => say_named(alloc, Piece::Source, name.as_str().as_bytes(), site),
@@ -58,7 +60,7 @@ fn say_refusal<S: Site>(alloc: Global, refusal: &Refusal, site: &mut S) -> Resul
 }
 
 fn refusal_code(refusal: &Refusal) -> u8
-    ensures { result ≡ refusal_code refusal.now }
+    ensures { result ≡ refusal_code (reason_of refusal.now) }
 {
     match refusal {
         Refusal::NoText(_) => 3,
@@ -67,7 +69,7 @@ fn refusal_code(refusal: &Refusal) -> u8
     }
 }
 
-/// Says that there is no fault, and answers the status.
+/// Says that there is no fault, and answers the status: 0, or 4 where that can't be said.
 pub fn report_fine<S: Site>(site: &mut S) -> u8
     ensures { (said : Result (Unit {0}) OutsideFault) × Says (S.seen site.old) (S.seen site.new) fine_text said × (result ≡ said_code said) }
 {
@@ -75,10 +77,11 @@ pub fn report_fine<S: Site>(site: &mut S) -> u8
     said_code(said)
 }
 
-/// Says the line of a refusal, and answers its status.
+/// Says the line of a refusal, and answers its status: 2 for a fault of the description or of an element file, 3 for a
+/// text that can't be read, and 6 where memory was wanted, for the line too. A line that can't be said changes none of
+/// them.
 pub fn report_refusal<S: Site>(alloc: Global, refusal: &Refusal, site: &mut S) -> u8
-    ensures { (said : Result (Unit {0}) OutsideFault) × Says (S.seen site.old) (S.seen site.new) (refusal_line refusal.now) said
-        × (result ≡ max (refusal_code refusal.now) (wanted_code said)) }
+    ensures { ReportsRefusal no_parties (reason_of refusal.now) (S.seen site.old) (S.seen site.new) result }
 {
     let said = say_refusal(alloc, refusal, site);
     refusal_code(refusal).max(wanted_code(said))

@@ -1,7 +1,7 @@
 use Rattle.std.proofs.Common.{◌≡◌, take}
 use Rattle.call_spec.specs.Texts.{HasTable}
-use Rattle.collector_top.specs.Check.{KeepsRest}
-use Rattle.collector_top.proofs.check.judge_files.Given as goal
+use Rattle.described_texts.specs.Read.{KeepsRest}
+use Rattle.described_texts.proofs.read.read_elements.Given as goal
 
 abbrev pub invariant-loop-name : goal.invariant-loop-name
 invariant-loop-name g l = record {
