@@ -1,5 +1,5 @@
 -- What came of the log of a run, and of the sink of its output, by their names.
-use Rattle.std.proofs.Common.{◌≡◌, ℕ, ◌≤◌, Bool, false, List, [], ◌∷◌, ◌++◌, Option, Some, None, take, map, refl, ap, sym, subst, ◌∙◌, arith, append-nil, append_assoc}
+use Rattle.std.proofs.Common.{◌≡◌, ℕ, ◌≤◌, Bool, false, List, [], ◌∷◌, ◌++◌, Option, Some, None, length, take, map, refl, ap, sym, subst, ◌∙◌, arith, append-nil, append_assoc}
 use Rattle.std.specs.Prelude.{MatchOption, is_some, nat_lt}
 use Rattle.site_io.specs.Seen.{SinkSeen}
 use Rattle.site_io.specs.Writes.{Grows}
@@ -107,6 +107,13 @@ module _ {K : Type 0} (held : K → Option (List ℕ)) (faults : K → ℕ) wher
   a_log front rest a made (Some f) (Some m) e s l =
       let same : f ≡ made = cc in
       (m, refl, since front rest a made m s (subst (λ (x : OrderLog K). Stands held faults x.sink (order_of front) (next_of rest) m) same l))
+
+  -- there are as many sinks as before
+  pub as_many : (front rest : List Entry) (sinks : List K) (old new : Option (OrderLog K)) (first sink : K) → AreNewOver held faults sinks old first → LogTook held faults front rest old new → length (log_sinks new ++ sink ∷ []) ≡ length sinks
+  as_many front rest [] old new first sink is l = absurd is
+  as_many front rest (a ∷ []) old new first sink is l = ap (λ (x : Option (OrderLog K)). length (log_sinks x ++ sink ∷ [])) (no_log front rest old new is.0 l).0
+  as_many front rest (a ∷ (c ∷ [])) old new first sink is l = ap (λ (x : Option (OrderLog K)). length (log_sinks x ++ sink ∷ [])) (a_log front rest a is.0.0 old new is.0.1 is.0.2 l).1
+  as_many front rest (a ∷ (c ∷ (d ∷ more))) old new first sink is l = absurd is
 
   module _ (names : List (List ℕ)) (distinct : AreDistinct names) (front rest : List Entry) (b e : List ℕ → SinkSeen) where
     abbrev Began : ℕ → List ℕ → K → Type 0
