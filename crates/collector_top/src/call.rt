@@ -9,9 +9,11 @@ ghost use Rattle.run_lines.specs.Says.{Says};
 use crate::check::check_run;
 use crate::direct::direct_run;
 use crate::words::{Command, command_of};
+use collect_call::collect_run;
 use run_lines::{Piece, say_piece};
 use site_io::Site;
 use std::alloc::Global;
+use std::sync::Wait;
 
 /// Prints the usage line, and answers the status of words that are refused.
 fn refuse<S: Site>(site: &mut S) -> u8
@@ -23,13 +25,19 @@ fn refuse<S: Site>(site: &mut S) -> u8
 }
 
 /// Does what the words ask for, and answers the program's status: 1 exactly where the words are refused, as those of
-/// `collect` and `generate` are until these are built.
-pub fn collect_main<S: Site>(alloc: Global, words: &Vec<String>, site: &mut S) -> u8
+/// `generate` are until it is built. Only `collect` may wait.
+pub fn collect_main<R: Wait, S: Site>(
+    alloc: Global,
+    rt: &R,
+    words: &Vec<String>,
+    site: &mut S,
+) -> u8
     ensures { Calls S.Src.left S.Src.faults (command_of (map string_bytes words.now.items)) (S.seen site.old) (S.seen site.new) result }
 {
     match command_of(words) {
         Command::Direct { place, out } => direct_run(alloc, place, out, site),
         Command::Check { file } => check_run(alloc, file, site),
-        Command::Collect { .. } | Command::Generate { .. } | Command::Refused => refuse(site),
+        Command::Collect { file } => collect_run(alloc, rt, file, site),
+        Command::Generate { .. } | Command::Refused => refuse(site),
     }
 }

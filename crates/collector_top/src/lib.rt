@@ -6,14 +6,12 @@
 //! program stands above.
 #![tactic(auto)]
 
-mod built;
 mod call;
 mod check;
 mod direct;
 mod report;
 mod words;
 
-pub use built::is_built;
 pub use call::collect_main;
 pub use check::check_run;
 pub use direct::direct_run;

@@ -47,7 +47,7 @@ fn main(rt: HostRuntime) -> ExitCode {
     let alloc = rt.alloc();
     let mut site = RealSite::new(&rt, alloc);
     match words_of(&rt) {
-        Ok(words) => ExitCode::from(collect_main(alloc, &words, &mut site)),
+        Ok(words) => ExitCode::from(collect_main(alloc, &rt, &words, &mut site)),
         Err(WantOfMemory) => {
             let _ = site.say(b"memory\n");
             ExitCode::from(NO_MEMORY)

@@ -44,7 +44,7 @@ fn a_file_becomes_lines(rt: HostRuntime) -> Result<(), Fail> {
     )?;
     let words = words_of(alloc, ["direct", place.as_str(), out.as_str()])?;
     let mut site = RealSite::new(&rt, alloc);
-    assert_eq!(rt; collect_main(alloc, &words, &mut site), 0);
+    assert_eq!(rt; collect_main(alloc, &rt, &words, &mut site), 0);
     let written = fs::read(&rt, &out)?;
     assert!(rt; written.as_slice() == FLOW.as_bytes());
     Ok(())
@@ -75,7 +75,7 @@ fn what_the_system_refuses_has_its_status(rt: HostRuntime) -> Result<(), Fail> {
         let words = words_of(alloc, ["direct", place, out])?;
         let mut site = RealSite::new(&rt, alloc);
         assert_eq!(rt;
-            collect_main(alloc, &words, &mut site),
+            collect_main(alloc, &rt, &words, &mut site),
             status,
             "{place} to {out}"
         );
@@ -107,7 +107,11 @@ fn texts_are_read_up_to_their_greatest_length(rt: HostRuntime) -> Result<(), Fai
         let path = folder.path(alloc, name)?;
         let words = words_of(alloc, ["check", "-c", path.as_str()])?;
         let mut site = RealSite::new(&rt, alloc);
-        assert_eq!(rt; collect_main(alloc, &words, &mut site), status, "{name}");
+        assert_eq!(rt;
+            collect_main(alloc, &rt, &words, &mut site),
+            status,
+            "{name}"
+        );
     }
     Ok(())
 }
@@ -132,7 +136,7 @@ fn one_file_is_not_both_read_and_written(rt: HostRuntime) -> Result<(), Fail> {
         let words = words_of(alloc, ["direct", place.as_str(), out.as_str()])?;
         let mut site = RealSite::new(&rt, alloc);
         assert_eq!(rt;
-            collect_main(alloc, &words, &mut site),
+            collect_main(alloc, &rt, &words, &mut site),
             4,
             "{place} to {out}"
         );
@@ -140,7 +144,7 @@ fn one_file_is_not_both_read_and_written(rt: HostRuntime) -> Result<(), Fail> {
     }
     let words = words_of(alloc, ["direct", other.as_str(), hard.as_str()])?;
     let mut site = RealSite::new(&rt, alloc);
-    assert_eq!(rt; collect_main(alloc, &words, &mut site), 0);
+    assert_eq!(rt; collect_main(alloc, &rt, &words, &mut site), 0);
     assert!(rt; fs::read(&rt, &file)?.as_slice() == FLOW.as_bytes());
     Ok(())
 }

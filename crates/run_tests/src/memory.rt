@@ -59,7 +59,7 @@ fn want_of_memory_gives_6_and_leaves_a_front(rt: HostRuntime) -> Result<(), Fail
     for word in ["direct", "IN", "OUT"] {
         words.push(String::from_str(alloc, word)?)?;
     }
-    let status = collect_main(alloc, &words, &mut site);
+    let status = collect_main(alloc, &rt, &words, &mut site);
     let printed = site.printed();
     assert!(rt;
         status == 0 && printed.is_empty() || status == 6 && is_of_memory(printed),

@@ -8,6 +8,7 @@ use crate::pieces::Pieces;
 use crate::wanted::wanted_of;
 use std::alloc::Global;
 use std::mem;
+use std::sync::Wait;
 
 /// What was read of a file of cases. A case is played as soon as the next one begins.
 #[derive(Drop)]
@@ -53,7 +54,7 @@ impl CaseFile {
     }
 
     /// Takes the next line.
-    pub fn take_line(&mut self, alloc: Global, line: &str) -> Result<(), Fault> {
+    pub fn take_line<R: Wait>(&mut self, rt: &R, alloc: Global, line: &str) -> Result<(), Fault> {
         if line.is_empty() || line.starts_with('#') {
             return Ok(());
         }
@@ -62,18 +63,18 @@ impl CaseFile {
                 return Ok(());
             }
         }
-        self.end_block(alloc)?;
+        self.end_block(rt, alloc)?;
         if let Some(each) = &mut self.each {
             if each.takes(alloc, line)? {
                 return Ok(());
             }
         }
-        self.end_each(alloc)?;
-        self.begin(alloc, line)
+        self.end_each(rt, alloc)?;
+        self.begin(rt, alloc, line)
     }
 
     /// Takes a line that belongs to none before it.
-    fn begin(&mut self, alloc: Global, line: &str) -> Result<(), Fault> {
+    fn begin<R: Wait>(&mut self, rt: &R, alloc: Global, line: &str) -> Result<(), Fault> {
         if let Some(block) = Block::begun(alloc, line)? {
             self.block = Some(block);
             return Ok(());
@@ -82,41 +83,41 @@ impl CaseFile {
             self.each = Some(each);
             return Ok(());
         }
-        self.take_plain(alloc, line)
+        self.take_plain(rt, alloc, line)
     }
 
     /// Plays the last case.
-    pub fn end(&mut self, alloc: Global) -> Result<(), Fault> {
-        self.end_block(alloc)?;
-        self.end_each(alloc)?;
-        self.end_case(alloc)
+    pub fn end<R: Wait>(&mut self, rt: &R, alloc: Global) -> Result<(), Fault> {
+        self.end_block(rt, alloc)?;
+        self.end_each(rt, alloc)?;
+        self.end_case(rt, alloc)
     }
 
-    fn end_block(&mut self, alloc: Global) -> Result<(), Fault> {
+    fn end_block<R: Wait>(&mut self, rt: &R, alloc: Global) -> Result<(), Fault> {
         match mem::replace(&mut self.block, None) {
             Some(block) => {
                 let line = block.ended(alloc)?;
-                self.take_plain(alloc, line.as_str())
+                self.take_plain(rt, alloc, line.as_str())
             }
             None => Ok(()),
         }
     }
 
-    fn end_each(&mut self, alloc: Global) -> Result<(), Fault> {
+    fn end_each<R: Wait>(&mut self, rt: &R, alloc: Global) -> Result<(), Fault> {
         let Some(each) = mem::replace(&mut self.each, None) else {
             return Ok(());
         };
         for line in each.ended(alloc)? {
-            self.take_plain(alloc, line.as_str())?;
+            self.take_plain(rt, alloc, line.as_str())?;
         }
         Ok(())
     }
 
-    fn end_case(&mut self, alloc: Global) -> Result<(), Fault> {
+    fn end_case<R: Wait>(&mut self, rt: &R, alloc: Global) -> Result<(), Fault> {
         let Some(case) = mem::replace(&mut self.case, None) else {
             return Ok(());
         };
-        let differences = case.differences(alloc)?;
+        let differences = case.differences(rt, alloc)?;
         self.cases = self.cases.saturating_add(1);
         if !differences.is_empty() {
             self.failed = self.failed.saturating_add(1);
@@ -134,21 +135,21 @@ impl CaseFile {
     }
 
     /// Takes a line whose octets stand in it, as hexadecimal digits or by the names of pieces.
-    fn take_plain(&mut self, alloc: Global, line: &str) -> Result<(), Fault> {
+    fn take_plain<R: Wait>(&mut self, rt: &R, alloc: Global, line: &str) -> Result<(), Fault> {
         match line.rsplit_once(' ') {
             Some((front, spelled)) if spelled.contains('@') => {
                 let octets = self.pieces.octets(alloc, spelled)?;
                 let line = with_octets(alloc, front, octets.as_slice())?;
-                self.take_spelled(alloc, line.as_str())
+                self.take_spelled(rt, alloc, line.as_str())
             }
-            _ => self.take_spelled(alloc, line),
+            _ => self.take_spelled(rt, alloc, line),
         }
     }
 
     /// Takes a line whose octets stand in it as hexadecimal digits.
-    fn take_spelled(&mut self, alloc: Global, line: &str) -> Result<(), Fault> {
+    fn take_spelled<R: Wait>(&mut self, rt: &R, alloc: Global, line: &str) -> Result<(), Fault> {
         if let Some(name) = line.strip_prefix("case ") {
-            self.end_case(alloc)?;
+            self.end_case(rt, alloc)?;
             self.case = Some(Case::new(alloc, name)?);
             return Ok(());
         }

@@ -25,47 +25,54 @@ use case_file::CaseFile;
 use fault::LineFault;
 use script::Script;
 use std::alloc::Global;
+use std::io::Print;
 use std::process::ExitCode;
+use std::rt::Files;
+use std::sync::Wait;
 use std::{env, fs};
 
 /// What is printed of a script.
 #[derive(Clone, Copy)]
-enum Print {
+enum Shown {
     /// What its call left.
     Call,
     /// What the inputs of its description give.
     Arrivals,
 }
 
-impl Print {
+impl Shown {
     /// The lines of a script.
-    fn text_of(self, alloc: Global, text: &str) -> Result<String, LineFault> {
+    fn text_of<R: Wait>(self, rt: &R, alloc: Global, text: &str) -> Result<String, LineFault> {
         let script = Script::read(alloc, text)?;
         match self {
-            Print::Call => Ok(played::play(alloc, script)?.printed(alloc)?),
-            Print::Arrivals => Ok(arrivals::arrivals_text(alloc, script)?),
+            Shown::Call => Ok(played::play(rt, alloc, script)?.printed(alloc)?),
+            Shown::Arrivals => Ok(arrivals::arrivals_text(alloc, script)?),
         }
     }
 }
 
 /// Plays the cases of a file: how many there are, and how many of them failed, beside what is told of those.
-fn played_cases(alloc: Global, text: &str) -> Result<CaseFile, LineFault> {
+fn played_cases<R: Wait>(rt: &R, alloc: Global, text: &str) -> Result<CaseFile, LineFault> {
     let mut file = CaseFile::new(alloc);
     let mut last = 0;
     for (place, line) in text.lines().enumerate() {
         last = place;
-        file.take_line(alloc, line)
+        file.take_line(rt, alloc, line)
             .map_err(|fault| LineFault::new(place, fault))?;
     }
-    file.end(alloc)
+    file.end(rt, alloc)
         .map_err(|fault| LineFault::new(last, fault))?;
     Ok(file)
 }
 
 /// Prints what comes of one script.
-fn run_script(rt: &HostRuntime, print: Print, path: &str) -> anyhow::Result<bool> {
+fn run_script<R: Files + Print + Wait + AllocGlobal>(
+    rt: &R,
+    shown: Shown,
+    path: &str,
+) -> anyhow::Result<bool> {
     let text = fs::read_to_string(rt, path)?;
-    match print.text_of(rt.alloc(), text.as_str()) {
+    match shown.text_of(rt, rt.alloc(), text.as_str()) {
         Ok(printed) => {
             print!(rt; "{printed}")?;
             Ok(true)
@@ -78,9 +85,13 @@ fn run_script(rt: &HostRuntime, print: Print, path: &str) -> anyhow::Result<bool
 }
 
 /// Prints what comes of several scripts, up to the first with a line that isn't taken.
-fn run_scripts(rt: &HostRuntime, print: Print, paths: &[String]) -> anyhow::Result<bool> {
+fn run_scripts<R: Files + Print + Wait + AllocGlobal>(
+    rt: &R,
+    shown: Shown,
+    paths: &[String],
+) -> anyhow::Result<bool> {
     for path in paths {
-        if !run_script(rt, print, path.as_str())? {
+        if !run_script(rt, shown, path.as_str())? {
             return Ok(false);
         }
     }
@@ -88,12 +99,15 @@ fn run_scripts(rt: &HostRuntime, print: Print, paths: &[String]) -> anyhow::Resu
 }
 
 /// Plays the cases of these files.
-fn run_cases(rt: &HostRuntime, paths: &[String]) -> anyhow::Result<bool> {
+fn run_cases<R: Files + Print + Wait + AllocGlobal>(
+    rt: &R,
+    paths: &[String],
+) -> anyhow::Result<bool> {
     let mut cases: u64 = 0;
     let mut failed: u64 = 0;
     for path in paths {
         let text = fs::read_to_string(rt, path.as_str())?;
-        match played_cases(rt.alloc(), text.as_str()) {
+        match played_cases(rt, rt.alloc(), text.as_str()) {
             Ok(file) => {
                 print!(rt; "{}", file.told())?;
                 cases = cases.saturating_add(file.cases());
@@ -110,14 +124,14 @@ fn run_cases(rt: &HostRuntime, paths: &[String]) -> anyhow::Result<bool> {
 }
 
 /// Does what the words ask for, and answers whether all was well.
-fn run(rt: &HostRuntime, words: &[String]) -> anyhow::Result<bool> {
+fn run<R: Files + Print + Wait + AllocGlobal>(rt: &R, words: &[String]) -> anyhow::Result<bool> {
     match words {
-        [path] => run_script(rt, Print::Call, path.as_str()),
+        [path] => run_script(rt, Shown::Call, path.as_str()),
         [command, path] if command.as_str() == "run" => {
-            run_script(rt, Print::Call, path.as_str())
+            run_script(rt, Shown::Call, path.as_str())
         }
         [command, paths @ ..] if command.as_str() == "arrivals" && !paths.is_empty() => {
-            run_scripts(rt, Print::Arrivals, paths)
+            run_scripts(rt, Shown::Arrivals, paths)
         }
         [command, paths @ ..] if command.as_str() == "cases" && !paths.is_empty() => {
             run_cases(rt, paths)
