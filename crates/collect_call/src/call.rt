@@ -8,17 +8,18 @@ ghost use Rattle.collect_call.specs.Runs.{IsPrepared, RunsOf};
 
 use crate::prepare::{Prepared, prepare};
 use crate::report::report_unrun;
-use crate::stub::run_described;
 use crate::unrun::Unrun;
 use config_spec::Conf;
+use described_run::run_described;
 use described_texts::{Description, read_description, report_refusal};
 use run_lines::report_run;
 use site_io::Site;
 use std::alloc::Global;
+use std::rt::Clock;
 use std::sync::Wait;
 
 /// Runs a description that is prepared, tells what came of it, and answers the status.
-fn run_prepared<R: Wait, S: Site>(
+fn run_prepared<R: Wait + Clock, S: Site>(
     alloc: Global,
     rt: &R,
     conf: &Conf,
@@ -37,7 +38,7 @@ fn run_prepared<R: Wait, S: Site>(
 }
 
 /// Runs a description that was read, tells what came of it, and answers the status.
-fn run_read<R: Wait, S: Site>(alloc: Global, rt: &R, read: Description, site: &mut S) -> u8
+fn run_read<R: Wait + Clock, S: Site>(alloc: Global, rt: &R, read: Description, site: &mut S) -> u8
     requires { (octets : List ℕ) × (description octets ≡ Ok read.conf) }
     ensures { CallsOf S.Src.left S.Src.faults (RunsOf read.conf read.elements) (S.seen site.old) (S.seen site.new) result }
 {
@@ -55,7 +56,7 @@ fn run_read<R: Wait, S: Site>(alloc: Global, rt: &R, read: Description, site: &m
 /// The status is 2 where the description or an element file has a fault, or the description isn't built yet; 3 where a text
 /// or a source failed; 4 where a sink failed, or the printing of a run's lines; 6 where memory was wanted; and 0 where all
 /// is done. Of several the greatest is answered.
-pub fn collect_run<R: Wait, S: Site>(alloc: Global, rt: &R, file: &str, site: &mut S) -> u8
+pub fn collect_run<R: Wait + Clock, S: Site>(alloc: Global, rt: &R, file: &str, site: &mut S) -> u8
     ensures { Calls S.Src.left S.Src.faults (Collect file.now) (S.seen site.old) (S.seen site.new) result }
 {
     match read_description(alloc, file, site) {

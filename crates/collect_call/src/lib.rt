@@ -9,7 +9,6 @@ mod built;
 mod call;
 mod prepare;
 mod report;
-mod stub;
 mod unrun;
 
 pub use call::collect_run;

@@ -13,6 +13,7 @@ use collect_call::collect_run;
 use run_lines::{Piece, say_piece};
 use site_io::Site;
 use std::alloc::Global;
+use std::rt::Clock;
 use std::sync::Wait;
 
 /// Prints the usage line, and answers the status of words that are refused.
@@ -26,7 +27,7 @@ fn refuse<S: Site>(site: &mut S) -> u8
 
 /// Does what the words ask for, and answers the program's status: 1 exactly where the words are refused, as those of
 /// `generate` are until it is built. Only `collect` may wait.
-pub fn collect_main<R: Wait, S: Site>(
+pub fn collect_main<R: Wait + Clock, S: Site>(
     alloc: Global,
     rt: &R,
     words: &Vec<String>,

@@ -6,6 +6,7 @@ use crate::played::play;
 use crate::script::Script;
 use crate::wanted::Wanted;
 use std::alloc::{AllocError, Global};
+use std::rt::Clock;
 use std::sync::Wait;
 
 /// A script with a name, and what its call is to leave, or what the inputs of its description are to give.
@@ -56,7 +57,7 @@ impl Case {
 
     /// Makes the call, or asks the inputs, and answers a line for each thing that came otherwise. A case wants what the one
     /// leaves, or what the others give.
-    pub fn differences<R: Wait>(self, rt: &R, alloc: Global) -> Result<String, Fault> {
+    pub fn differences<R: Wait + Clock>(self, rt: &R, alloc: Global) -> Result<String, Fault> {
         let Case {
             name,
             script,

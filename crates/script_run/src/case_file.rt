@@ -8,6 +8,7 @@ use crate::pieces::Pieces;
 use crate::wanted::wanted_of;
 use std::alloc::Global;
 use std::mem;
+use std::rt::Clock;
 use std::sync::Wait;
 
 /// What was read of a file of cases. A case is played as soon as the next one begins.
@@ -54,7 +55,7 @@ impl CaseFile {
     }
 
     /// Takes the next line.
-    pub fn take_line<R: Wait>(&mut self, rt: &R, alloc: Global, line: &str) -> Result<(), Fault> {
+    pub fn take_line<R: Wait + Clock>(&mut self, rt: &R, alloc: Global, line: &str) -> Result<(), Fault> {
         if line.is_empty() || line.starts_with('#') {
             return Ok(());
         }
@@ -74,7 +75,7 @@ impl CaseFile {
     }
 
     /// Takes a line that belongs to none before it.
-    fn begin<R: Wait>(&mut self, rt: &R, alloc: Global, line: &str) -> Result<(), Fault> {
+    fn begin<R: Wait + Clock>(&mut self, rt: &R, alloc: Global, line: &str) -> Result<(), Fault> {
         if let Some(block) = Block::begun(alloc, line)? {
             self.block = Some(block);
             return Ok(());
@@ -87,13 +88,13 @@ impl CaseFile {
     }
 
     /// Plays the last case.
-    pub fn end<R: Wait>(&mut self, rt: &R, alloc: Global) -> Result<(), Fault> {
+    pub fn end<R: Wait + Clock>(&mut self, rt: &R, alloc: Global) -> Result<(), Fault> {
         self.end_block(rt, alloc)?;
         self.end_each(rt, alloc)?;
         self.end_case(rt, alloc)
     }
 
-    fn end_block<R: Wait>(&mut self, rt: &R, alloc: Global) -> Result<(), Fault> {
+    fn end_block<R: Wait + Clock>(&mut self, rt: &R, alloc: Global) -> Result<(), Fault> {
         match mem::replace(&mut self.block, None) {
             Some(block) => {
                 let line = block.ended(alloc)?;
@@ -103,7 +104,7 @@ impl CaseFile {
         }
     }
 
-    fn end_each<R: Wait>(&mut self, rt: &R, alloc: Global) -> Result<(), Fault> {
+    fn end_each<R: Wait + Clock>(&mut self, rt: &R, alloc: Global) -> Result<(), Fault> {
         let Some(each) = mem::replace(&mut self.each, None) else {
             return Ok(());
         };
@@ -113,7 +114,7 @@ impl CaseFile {
         Ok(())
     }
 
-    fn end_case<R: Wait>(&mut self, rt: &R, alloc: Global) -> Result<(), Fault> {
+    fn end_case<R: Wait + Clock>(&mut self, rt: &R, alloc: Global) -> Result<(), Fault> {
         let Some(case) = mem::replace(&mut self.case, None) else {
             return Ok(());
         };
@@ -135,7 +136,7 @@ impl CaseFile {
     }
 
     /// Takes a line whose octets stand in it, as hexadecimal digits or by the names of pieces.
-    fn take_plain<R: Wait>(&mut self, rt: &R, alloc: Global, line: &str) -> Result<(), Fault> {
+    fn take_plain<R: Wait + Clock>(&mut self, rt: &R, alloc: Global, line: &str) -> Result<(), Fault> {
         match line.rsplit_once(' ') {
             Some((front, spelled)) if spelled.contains('@') => {
                 let octets = self.pieces.octets(alloc, spelled)?;
@@ -147,7 +148,7 @@ impl CaseFile {
     }
 
     /// Takes a line whose octets stand in it as hexadecimal digits.
-    fn take_spelled<R: Wait>(&mut self, rt: &R, alloc: Global, line: &str) -> Result<(), Fault> {
+    fn take_spelled<R: Wait + Clock>(&mut self, rt: &R, alloc: Global, line: &str) -> Result<(), Fault> {
         if let Some(name) = line.strip_prefix("case ") {
             self.end_case(rt, alloc)?;
             self.case = Some(Case::new(alloc, name)?);

@@ -28,6 +28,7 @@ use std::alloc::Global;
 use std::io::Print;
 use std::process::ExitCode;
 use std::rt::Files;
+use std::rt::Clock;
 use std::sync::Wait;
 use std::{env, fs};
 
@@ -42,7 +43,7 @@ enum Shown {
 
 impl Shown {
     /// The lines of a script.
-    fn text_of<R: Wait>(self, rt: &R, alloc: Global, text: &str) -> Result<String, LineFault> {
+    fn text_of<R: Wait + Clock>(self, rt: &R, alloc: Global, text: &str) -> Result<String, LineFault> {
         let script = Script::read(alloc, text)?;
         match self {
             Shown::Call => Ok(played::play(rt, alloc, script)?.printed(alloc)?),
@@ -52,7 +53,7 @@ impl Shown {
 }
 
 /// Plays the cases of a file: how many there are, and how many of them failed, beside what is told of those.
-fn played_cases<R: Wait>(rt: &R, alloc: Global, text: &str) -> Result<CaseFile, LineFault> {
+fn played_cases<R: Wait + Clock>(rt: &R, alloc: Global, text: &str) -> Result<CaseFile, LineFault> {
     let mut file = CaseFile::new(alloc);
     let mut last = 0;
     for (place, line) in text.lines().enumerate() {
@@ -66,7 +67,7 @@ fn played_cases<R: Wait>(rt: &R, alloc: Global, text: &str) -> Result<CaseFile, 
 }
 
 /// Prints what comes of one script.
-fn run_script<R: Files + Print + Wait + AllocGlobal>(
+fn run_script<R: Files + Print + Wait + Clock + AllocGlobal>(
     rt: &R,
     shown: Shown,
     path: &str,
@@ -85,7 +86,7 @@ fn run_script<R: Files + Print + Wait + AllocGlobal>(
 }
 
 /// Prints what comes of several scripts, up to the first with a line that isn't taken.
-fn run_scripts<R: Files + Print + Wait + AllocGlobal>(
+fn run_scripts<R: Files + Print + Wait + Clock + AllocGlobal>(
     rt: &R,
     shown: Shown,
     paths: &[String],
@@ -99,7 +100,7 @@ fn run_scripts<R: Files + Print + Wait + AllocGlobal>(
 }
 
 /// Plays the cases of these files.
-fn run_cases<R: Files + Print + Wait + AllocGlobal>(
+fn run_cases<R: Files + Print + Wait + Clock + AllocGlobal>(
     rt: &R,
     paths: &[String],
 ) -> anyhow::Result<bool> {
@@ -124,7 +125,7 @@ fn run_cases<R: Files + Print + Wait + AllocGlobal>(
 }
 
 /// Does what the words ask for, and answers whether all was well.
-fn run<R: Files + Print + Wait + AllocGlobal>(rt: &R, words: &[String]) -> anyhow::Result<bool> {
+fn run<R: Files + Print + Wait + Clock + AllocGlobal>(rt: &R, words: &[String]) -> anyhow::Result<bool> {
     match words {
         [path] => run_script(rt, Shown::Call, path.as_str()),
         [command, path] if command.as_str() == "run" => {

@@ -6,6 +6,7 @@ use col_base::Text;
 use collector_top::collect_main;
 use site_io::MemorySite;
 use std::alloc::{AllocError, Global};
+use std::rt::Clock;
 use std::sync::Wait;
 
 /// The status of a call, the Site that it left, and the names of the script's sinks in order.
@@ -25,7 +26,7 @@ fn names_of(alloc: Global, sinks: &[PlannedSink]) -> Result<Vec<Text>, AllocErro
 }
 
 /// Makes the script's call.
-pub fn play<R: Wait>(rt: &R, alloc: Global, script: Script) -> Result<Played, AllocError> {
+pub fn play<R: Wait + Clock>(rt: &R, alloc: Global, script: Script) -> Result<Played, AllocError> {
     let names = names_of(alloc, script.sinks.as_slice())?;
     let (words, mut site) = script.into_call(alloc)?;
     let status = collect_main(alloc, rt, &words, &mut site);
