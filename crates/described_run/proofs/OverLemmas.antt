@@ -1,5 +1,5 @@
 -- A run over what was opened: how many inputs and sinks there are, and what came of it.
-use Rattle.std.proofs.Common.{◌≡◌, inr, ℕ, zero, suc, ◌+◌, ◌≤◌, ◌<◌, false, true, List, [], ◌∷◌, ◌++◌, Option, Some, None, length, map, refl, ap, sym, subst, ◌∙◌, arith}
+use Rattle.std.proofs.Common.{◌≡◌, inr, ℕ, suc, ◌≤◌, true, List, [], ◌∷◌, Option, Some, None, length, map, refl, ap, sym, subst, ◌∙◌, arith}
 use Rattle.std.specs.Prelude.{All, is_some}
 use Rattle.std.specs.List.{AllByRecursion, list_all}
 use Rattle.std.proofs.lemmas.List.{length-map}
@@ -19,7 +19,6 @@ use Rattle.call_spec.proofs.NameLemmas.{none_after}
 use Rattle.call_spec.proofs.PairLemmas.{same_length}
 use Rattle.call_spec.specs.Plan.{described_parties, output_party}
 use Rattle.logged_output.specs.declared.logged.LoggedOutput.{LoggedOutput}
-use Rattle.logged_output.specs.Entries.{Entry}
 use Rattle.logged_output.specs.Logged.{Took}
 use Rattle.run_input.specs.declared.input.Input.{Input}
 use Rattle.run_input.specs.Inputs.{HasGiven, IsRight}
@@ -29,9 +28,9 @@ use Rattle.run_lines.specs.declared.ended.Ended.{Ended}
 use Rattle.site_openings.specs.All.{AreOut, IsRefused}
 use Rattle.site_openings.specs.Out.{AreDistinct, Begins}
 use Rattle.site_openings.specs.Places.{all_left, place_faults, place_left, place_openings, place_out, places_of, SourcesBack}
-use Rattle.site_openings.specs.Sinks.{nothing_held, sink_faults, sink_held, sink_openings, sink_out, SinksBack, SinksOut}
+use Rattle.site_openings.specs.Sinks.{nothing_held, sink_faults, sink_held, sink_openings, sink_out, SinksBack}
 use Rattle.run_inputs.specs.Made.{AreMade, sources_of}
-use Rattle.run_came.specs.Ran.{HandedOn, IsNew, RanOver, sinks_of}
+use Rattle.run_came.specs.Ran.{HandedOn, IsNew, sinks_of}
 use Rattle.run_came.specs.Told.{CameToRun, IsNoted}
 use Rattle.run_came.proofs.OutputLemmas.{none_taken}
 use Rattle.run_came.proofs.RunLemmas.{run_came}

@@ -1,6 +1,6 @@
 -- A run over what was opened: its inputs handed on entries until they had ended, the log and the output took them, and all
 -- was given back.
-use Rattle.std.specs.Prelude.{ℕ, ◌≡◌, true, List, [], ◌∷◌, ◌++◌, Option, Some, None, is_some, map}
+use Rattle.std.specs.Prelude.{ℕ, ◌≡◌, true, List, [], ◌∷◌, ◌++◌, Option, Some, None, is_some}
 use Rattle.std.specs.List.{list_all}
 use Rattle.arrival_spec.specs.declared.event.Scripted.{Scripted}
 use Rattle.config_spec.specs.declared.conf.Conf.{Conf}

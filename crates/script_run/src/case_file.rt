@@ -55,7 +55,12 @@ impl CaseFile {
     }
 
     /// Takes the next line.
-    pub fn take_line<R: Wait + Clock>(&mut self, rt: &R, alloc: Global, line: &str) -> Result<(), Fault> {
+    pub fn take_line<R: Wait + Clock>(
+        &mut self,
+        rt: &R,
+        alloc: Global,
+        line: &str,
+    ) -> Result<(), Fault> {
         if line.is_empty() || line.starts_with('#') {
             return Ok(());
         }
@@ -136,7 +141,12 @@ impl CaseFile {
     }
 
     /// Takes a line whose octets stand in it, as hexadecimal digits or by the names of pieces.
-    fn take_plain<R: Wait + Clock>(&mut self, rt: &R, alloc: Global, line: &str) -> Result<(), Fault> {
+    fn take_plain<R: Wait + Clock>(
+        &mut self,
+        rt: &R,
+        alloc: Global,
+        line: &str,
+    ) -> Result<(), Fault> {
         match line.rsplit_once(' ') {
             Some((front, spelled)) if spelled.contains('@') => {
                 let octets = self.pieces.octets(alloc, spelled)?;
@@ -148,7 +158,12 @@ impl CaseFile {
     }
 
     /// Takes a line whose octets stand in it as hexadecimal digits.
-    fn take_spelled<R: Wait + Clock>(&mut self, rt: &R, alloc: Global, line: &str) -> Result<(), Fault> {
+    fn take_spelled<R: Wait + Clock>(
+        &mut self,
+        rt: &R,
+        alloc: Global,
+        line: &str,
+    ) -> Result<(), Fault> {
         if let Some(name) = line.strip_prefix("case ") {
             self.end_case(rt, alloc)?;
             self.case = Some(Case::new(alloc, name)?);

@@ -27,8 +27,7 @@ use script::Script;
 use std::alloc::Global;
 use std::io::Print;
 use std::process::ExitCode;
-use std::rt::Files;
-use std::rt::Clock;
+use std::rt::{Clock, Files};
 use std::sync::Wait;
 use std::{env, fs};
 
@@ -43,7 +42,12 @@ enum Shown {
 
 impl Shown {
     /// The lines of a script.
-    fn text_of<R: Wait + Clock>(self, rt: &R, alloc: Global, text: &str) -> Result<String, LineFault> {
+    fn text_of<R: Wait + Clock>(
+        self,
+        rt: &R,
+        alloc: Global,
+        text: &str,
+    ) -> Result<String, LineFault> {
         let script = Script::read(alloc, text)?;
         match self {
             Shown::Call => Ok(played::play(rt, alloc, script)?.printed(alloc)?),
@@ -125,7 +129,10 @@ fn run_cases<R: Files + Print + Wait + Clock + AllocGlobal>(
 }
 
 /// Does what the words ask for, and answers whether all was well.
-fn run<R: Files + Print + Wait + Clock + AllocGlobal>(rt: &R, words: &[String]) -> anyhow::Result<bool> {
+fn run<R: Files + Print + Wait + Clock + AllocGlobal>(
+    rt: &R,
+    words: &[String],
+) -> anyhow::Result<bool> {
     match words {
         [path] => run_script(rt, Shown::Call, path.as_str()),
         [command, path] if command.as_str() == "run" => {
