@@ -26,7 +26,7 @@ use Rattle.run_entries.specs.Came.{InputCameTo, end_or}
 use Rattle.run_entries.proofs.EndLemmas.{input_ends}
 use Rattle.site_openings.specs.Out.{Begins, CameBack, Shows, WentOut}
 use Rattle.site_openings.specs.Places.{all_left, place_faults, place_left, place_openings, place_out, places_of}
-use Rattle.run_came.specs.Ran.{sources_of}
+use Rattle.run_inputs.specs.Made.{sources_of}
 
 pub places_are : (inputs : List InputConf) → places_of inputs ≡ at_of (map input_party inputs)
 places_are [] = refl

@@ -39,7 +39,8 @@ use Rattle.site_openings.specs.Out.{AreDistinct, Begins, Shows}
 use Rattle.site_openings.specs.Places.{all_left, place_faults, place_left, place_openings, place_out, places_of}
 use Rattle.site_openings.specs.Sinks.{SinksBack, SinksOut, sink_faults, sink_held, sink_openings, sink_out}
 use Rattle.run_came.specs.Ends.{log_fault, own_fault, wanting}
-use Rattle.run_came.specs.Ran.{RanOver, sinks_of, sources_of}
+use Rattle.run_inputs.specs.Made.{sources_of}
+use Rattle.run_came.specs.Ran.{RanOver, sinks_of}
 use Rattle.run_came.specs.Told.{CameToRun, IsNoted, TellsRun}
 use Rattle.run_came.proofs.InputLemmas.{all_failed, all_gave, ends_same, place_kept, places_are}
 use Rattle.run_came.proofs.SinkLemmas.{LogHeld, SinksCame, sink_kept, sinks_came}

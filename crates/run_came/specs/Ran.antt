@@ -1,6 +1,6 @@
 -- A run over what was opened: its inputs handed on entries until they had ended, the log and the output took them, and all
 -- was given back.
-use Rattle.std.specs.Prelude.{ℕ, ◌≡◌, true, List, [], ◌∷◌, ◌++◌, Option, Some, None, is_some, map}
+use Rattle.std.specs.Prelude.{ℕ, ◌≡◌, true, List, [], ◌∷◌, ◌++◌, Option, Some, None, is_some}
 use Rattle.std.specs.List.{list_all}
 use Rattle.arrival_spec.specs.declared.event.Scripted.{Scripted}
 use Rattle.config_spec.specs.declared.conf.Conf.{Conf}
@@ -17,6 +17,7 @@ use Rattle.logged_output.specs.Entries.{Entry}
 use Rattle.logged_output.specs.Logged.{Took}
 use Rattle.run_input.specs.declared.input.Input.{Input}
 use Rattle.input_turns.specs.Turns.{SoFar}
+use Rattle.run_inputs.specs.Made.{sources_of}
 use Rattle.site_openings.specs.All.{AreOut}
 use Rattle.site_openings.specs.Places.{places_of, SourcesBack}
 use Rattle.site_openings.specs.Sinks.{SinksBack}
@@ -28,9 +29,6 @@ log_sinks (Some log) = log.sink ∷ []
 
 abbrev pub sinks_of : {T K : Type 0} → LoggedOutput T K → List K
 sinks_of taker = log_sinks taker.log ++ taker.output.sink ∷ []
-
-abbrev pub sources_of : {S : Type 0} → List (Input S) → List S
-sources_of {S} xs = map (λ (x : Input S). x.inlet.source) xs
 
 module _ {K : Type 0} (held : K → Option (List ℕ)) (faults : K → ℕ) where
   -- a log without entries over the first of these sinks, if there are two; and the other is the output's
