@@ -76,6 +76,10 @@ class Maker(compare_arrivals.Maker):
 
     CLOSES = 0.97
 
+    # How many of the inputs read where the first does, and how many scripts lack a text.
+    REPEATS = 0.01
+    LACKS = 0.01
+
     def begin(self, table):
         """Exporters to an input."""
         self.edges = [table.get(key, 1800) for key in ("late", "template-lifetime", "options-lifetime")]
@@ -210,15 +214,21 @@ class Maker(compare_arrivals.Maker):
         fails = [f"{self.random.randrange(0, most)}:{self.random.choice([0, 1, 2, 5, 40])}" for _ in range(2)]
         return [f"sink {name}", f"sinkfails {name} {' '.join(fails[: self.random.choice([1, 1, 2])])}"]
 
+    def some_definitions(self):
+        """Definitions, of which three have the same fields, and differ in their kind and their number of scope fields."""
+        some = [a_definition(self.random, kind) for kind in (TEMPLATES, TEMPLATES, TEMPLATES, OPTIONS)]
+        fields = some[0][2]
+        return some + [(OPTIONS, 1, fields), (OPTIONS, len(fields), fields)]
+
     def script(self, is_long):
-        self.definitions = [a_definition(self.random, kind) for kind in (TEMPLATES, TEMPLATES, TEMPLATES, OPTIONS, OPTIONS)]
+        self.definitions = self.some_definitions()
         count = self.random.choice([1, 1, 1, 2, 2, 3, 4])
         description = {"version": 1, "elements": self.elements(), "input": []}
         lines = []
         for number in range(count):
             transport = self.random.choice(["file", "tcp", "udp", "udp"])
             table, place = self.input(number, transport)
-            if number and self.chance(0.01):
+            if number and self.chance(self.REPEATS):
                 table = description["input"][0] | {"name": f"i{number}"}
                 place = None
             description["input"].append(table)
@@ -242,15 +252,15 @@ class Maker(compare_arrivals.Maker):
     def texts(self, description):
         conf = "".join(f"{key} = {act_cases.toml(value)}\n" for key, value in description.items())
         texts = {name: table_text(rows) for name, rows in TABLES.items() if name in description["elements"]}
-        if self.chance(0.99):
+        if not self.chance(self.LACKS):
             texts["conf"] = conf
-        if self.chance(0.01):
+        if self.chance(self.LACKS):
             texts.pop("first.toml", None)
         return [f"text {name} {text.encode().hex() or '-'}" for name, text in texts.items()]
 
 
-def scripts(seed, count):
-    maker = Maker(random.Random(seed))
+def scripts(seed, count, kind=Maker):
+    maker = kind(random.Random(seed))
     return (maker.script(number % LONG == LONG - 1) for number in range(count))
 
 
