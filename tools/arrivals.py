@@ -39,9 +39,6 @@ class Input:
         self.clock = 0
         self.counts = dict.fromkeys(COUNTS, 0)
 
-    def key(self, session):
-        return f"{self.number}/{session.number}"
-
     def count(self, name):
         self.counts[name] += 1
         return []
@@ -55,7 +52,7 @@ class Input:
         self.sessions[whose] = session
         self.opened += 1
         self.count("sessions")
-        return f"open {self.key(session)} {self.transport}"
+        return "open", self.number, session.number, self.transport
 
     def closing(self, whose):
         """Its session closes. It is torn where its stream ends within a message."""
@@ -63,19 +60,19 @@ class Input:
         rest = cut(session.octets)[1]
         if rest and not is_bad(rest):
             self.count("torn")
-        return [f"close {self.key(session)}"]
+        return [("close", self.number, session.number)]
 
     def raw(self, session, message):
-        return f"raw {self.key(session)} {message.hex() or '-'}"
+        return "raw", self.number, session.number, message
 
     def opens(self, connection):
         if self.transport == "udp" or connection in self.sessions or connection in self.dead:
             return self.count("stray")
-        line = self.opening(connection)
-        if line is None:
+        arrival = self.opening(connection)
+        if arrival is None:
             self.dead.add(connection)
             return []
-        return [line]
+        return [arrival]
 
     def brings(self, connection, octets):
         if connection in self.dead:
@@ -86,12 +83,12 @@ class Input:
         before = len(cut(session.octets)[0])
         session.octets += octets
         messages, rest = cut(session.octets)
-        lines = [self.raw(session, message) for message in messages[before:]]
+        arrivals = [self.raw(session, message) for message in messages[before:]]
         if is_bad(rest):
             self.count("broken")
             self.dead.add(connection)
-            lines += self.closing(connection)
-        return lines
+            arrivals += self.closing(connection)
+        return arrivals
 
     def closes(self, connection):
         if connection in self.dead:
@@ -104,26 +101,26 @@ class Input:
     def hears(self, peer, octets):
         if self.transport != "udp":
             return self.count("stray")
-        lines = []
+        arrivals = []
         if peer not in self.sessions:
-            line = self.opening(peer)
-            if line is None:
+            arrival = self.opening(peer)
+            if arrival is None:
                 return []
-            lines.append(line)
+            arrivals.append(arrival)
         session = self.sessions[peer]
         session.heard = self.clock
-        return lines + [self.raw(session, octets)]
+        return arrivals + [self.raw(session, octets)]
 
     def ticks(self, seconds):
-        lines = []
+        arrivals = []
         if self.transport == "udp":
             for peer in [p for p, session in self.sessions.items() if seconds >= session.heard + self.idle]:
-                lines += self.closing(peer)
+                arrivals += self.closing(peer)
         self.clock = seconds
-        return lines + [f"tick {self.number} {seconds}"]
+        return arrivals + [("tick", self.number, seconds)]
 
     def gives(self, event):
-        """The lines of what an event gives."""
+        """The arrivals that an event gives."""
         word, *parts = event
         match word:
             case "opened":
@@ -139,12 +136,13 @@ class Input:
 
     def ends(self):
         """Nothing comes any more: what is open closes."""
-        return [line for whose in list(self.sessions) for line in self.closing(whose)]
+        return [arrival for whose in list(self.sessions) for arrival in self.closing(whose)]
 
 
 def answers(of, stop_after, events, failing):
-    """The lines of all that an input answers until its end, how many events are left, and whether its source failed."""
-    lines, calls, given, taken = [], 0, 0, 0
+    """All that an input answers before its end, which are arrivals, "nothing" and "notyet"; how many events are left; and
+    whether its source failed."""
+    answered, calls, given, taken = [], 0, 0, 0
     failed = False
     while True:
         failed = calls in failing
@@ -154,16 +152,35 @@ def answers(of, stop_after, events, failing):
         event = events[given]
         given += 1
         if event[0] == "notyet":
-            lines.append("notyet")
+            answered.append("notyet")
             continue
         came = of.gives(event)
         taken += 1
-        lines += came
+        answered += came
         if taken == stop_after:
             break
         if not came:
-            lines.append("nothing")
-    return lines + of.ends() + ["end", "end"], len(events) - given, failed
+            answered.append("nothing")
+    return answered + of.ends(), len(events) - given, failed
+
+
+def input_of(number, table):
+    """An input as its table in a description says."""
+    return Input(number, table["kind"], table.get("idle", 600))
+
+
+def line_of(answer):
+    match answer:
+        case "open", number, session, transport:
+            return f"open {number}/{session} {transport}"
+        case "raw", number, session, octets:
+            return f"raw {number}/{session} {octets.hex() or '-'}"
+        case "close", number, session:
+            return f"close {number}/{session}"
+        case "tick", number, seconds:
+            return f"tick {number} {seconds}"
+        case _:
+            return answer
 
 
 def octets_of(text):
@@ -205,10 +222,11 @@ def listing(text):
         if place not in sources:
             lines.append(f"input {number} closed")
             continue
-        of = Input(number, table["kind"], table.get("idle", 600))
-        came, left, failed = answers(of, table.get("stop-after", 0), sources[place], failing.get(place, ()))
+        of = input_of(number, table)
+        answered, left, failed = answers(of, table.get("stop-after", 0), sources[place], failing.get(place, ()))
         counts = " ".join(f"{name} {of.counts[name]}" for name in COUNTS)
-        lines += [*came, f"input {number} {counts} fault {'source' if failed else 'nothing'}", f"left {left}"]
+        lines += [*map(line_of, answered), "end", "end"]
+        lines += [f"input {number} {counts} fault {'source' if failed else 'nothing'}", f"left {left}"]
     return lines
 
 

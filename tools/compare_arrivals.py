@@ -10,21 +10,12 @@ with what tools/arrivals.py reads. The first script that differs is kept in the 
 the word `cases` in the place of the program the scripts are printed as cases, with what is to come of each.
 """
 
-import os
-import random
-import subprocess
 import sys
-import tempfile
 
 sys.dont_write_bytecode = True
 
 from arrivals import listing
-
-# How many scripts the program is given at once.
-BATCH = 50
-
-# One script of so many is long: more sessions open than may be open at once.
-LONG = 50
+from compared import main
 
 # A few sessions fewer than may be open at once.
 NEARLY_FULL = 4090
@@ -58,6 +49,9 @@ class Stream:
 class Maker:
     """Makes scripts."""
 
+    # From here on, of what happens to a connection, it is closed.
+    CLOSES = 0.9
+
     def __init__(self, source):
         self.random = source
 
@@ -89,23 +83,29 @@ class Maker:
                 clock = self.tick(clock)
                 lines.append(f"tick {clock}")
             elif (transport == "udp") != self.chance(0.05):
-                octets = self.random.randbytes(self.random.choice([0, 1, 4, 16, 20]))
-                lines.append(f"datagram {self.peer()} {octets.hex() or '-'}")
+                lines.append(self.datagram())
             else:
                 lines.append(self.of_connection(streams))
         return lines
+
+    def datagram(self):
+        octets = self.random.randbytes(self.random.choice([0, 1, 4, 16, 20]))
+        return f"datagram {self.peer()} {octets.hex() or '-'}"
+
+    def stream(self):
+        return Stream(self.random)
 
     def of_connection(self, streams):
         connection = self.connection()
         kind = self.random.random()
         is_open = connection in streams
         if not is_open and kind < 0.8 or kind < 0.03:
-            streams[connection] = Stream(self.random)
+            streams[connection] = self.stream()
             return f"opened {connection}"
-        if kind > 0.9:
+        if kind > self.CLOSES:
             streams.pop(connection, None)
             return f"closed {connection}"
-        stream = streams.get(connection) or Stream(self.random)
+        stream = streams.get(connection) or self.stream()
         return f"bytes {connection} {stream.piece().hex()}"
 
     def many(self, transport):
@@ -159,67 +159,5 @@ class Maker:
         return "\n".join([f"text conf {chr(10).join(conf).encode().hex()}", *lines]) + "\n"
 
 
-def scripts(seed, count):
-    source = random.Random(seed)
-    maker = Maker(source)
-    return (maker.script(number % LONG == LONG - 1) for number in range(count))
-
-
-def print_cases(count, seed):
-    print(f"# What inputs give: written by `tools/compare_arrivals.py cases {count} {seed}`.")
-    for number, script in enumerate(scripts(seed, count)):
-        print(f"\ncase script {number}\n{script}" + "\n".join(f"gives {line}" for line in listing(script)))
-
-
-def printed(program, paths):
-    result = subprocess.run([program, "arrivals", *paths], stdout=subprocess.PIPE, check=False)
-    return result.returncode, result.stdout.decode()
-
-
-def differs(program, batch):
-    """The first script of which something else is printed, with what was found and what was expected."""
-    with tempfile.TemporaryDirectory() as folder:
-        paths = [os.path.join(folder, f"{number}.script") for number in range(len(batch))]
-        for path, script in zip(paths, batch):
-            with open(path, "w", encoding="utf-8") as file:
-                file.write(script)
-        wanted = ["".join(f"{line}\n" for line in listing(script)) for script in batch]
-        if printed(program, paths) == (0, "".join(wanted)):
-            return None
-        for path, script, each in zip(paths, batch, wanted):
-            found = printed(program, [path])
-            if found != (0, each):
-                return script, found, each
-    return batch[0], "several scripts at once", "each by itself is right"
-
-
-def compare(program, count, seed):
-    batch, done = [], 0
-    for script in scripts(seed, count):
-        batch.append(script)
-        if len(batch) < BATCH and done + len(batch) < count:
-            continue
-        found = differs(program, batch)
-        if found:
-            script, output, wanted = found
-            with tempfile.NamedTemporaryFile("w", suffix=".script", delete=False) as file:
-                file.write(script)
-            print(f"differs: {file.name}\nfound\n{output}\nexpected\n{wanted}")
-            return 1
-        done += len(batch)
-        batch = []
-    print(f"{done} scripts of seed {seed}, none differs")
-    return 0
-
-
-def main(words):
-    if words[0] == "cases":
-        print_cases(int(words[1]), int(words[2]))
-        return 0
-    count = int(words[1]) if len(words) > 1 else 2000
-    seed = int(words[2]) if len(words) > 2 else random.randrange(2**32)
-    return compare(words[0], count, seed)
-
-
 if __name__ == "__main__":
-    sys.exit(main(sys.argv[1:]))
+    sys.exit(main(sys.argv[1:], "arrivals", listing, Maker))
