@@ -3,6 +3,9 @@ use crate::fault::Fault;
 use crate::part::{hexadecimal, number};
 use std::alloc::Global;
 
+/// How many numbers of 32 bits there are.
+const NUMBERS: u64 = 4294967296;
+
 /// The line for a number: with it in decimal in the place of each `#`, and with as many times it in the place of each
 /// `%TIMES%`, in eight hexadecimal digits.
 fn line_for(alloc: Global, line: &str, number: u64) -> Result<String, Fault> {
@@ -23,8 +26,8 @@ fn line_for(alloc: Global, line: &str, number: u64) -> Result<String, Fault> {
 
 /// So many times a number, modulo 2^32, in eight hexadecimal digits.
 fn product_of(alloc: Global, times: &str, of: u64) -> Result<String, Fault> {
-    let product = number(times, 65535)?.wrapping_mul(of) as u32;
-    Ok(hexadecimal(alloc, &product.to_be_bytes())?)
+    let product = number(times, 65535)?.wrapping_mul(of) % NUMBERS;
+    Ok(hexadecimal(alloc, &(product as u32).to_be_bytes())?)
 }
 
 /// Lines that stand for as many as there are numbers: for each number all of them.
