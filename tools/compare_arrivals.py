@@ -10,19 +10,12 @@ with what tools/arrivals.py reads. The first script that differs is kept in the 
 the word `cases` in the place of the program the scripts are printed as cases, with what is to come of each.
 """
 
-import random
 import sys
 
 sys.dont_write_bytecode = True
 
 from arrivals import listing
-from compared import Comparison
-
-# How many scripts the program is given at once.
-BATCH = 50
-
-# One script of so many is long: more sessions open than may be open at once.
-LONG = 50
+from compared import main
 
 # A few sessions fewer than may be open at once.
 NEARLY_FULL = 4090
@@ -166,27 +159,5 @@ class Maker:
         return "\n".join([f"text conf {chr(10).join(conf).encode().hex()}", *lines]) + "\n"
 
 
-def scripts(seed, count):
-    source = random.Random(seed)
-    maker = Maker(source)
-    return (maker.script(number % LONG == LONG - 1) for number in range(count))
-
-
-def print_cases(count, seed):
-    print(f"# What inputs give: written by `tools/compare_arrivals.py cases {count} {seed}`.")
-    for number, script in enumerate(scripts(seed, count)):
-        print(f"\ncase script {number}\n{script}" + "\n".join(f"gives {line}" for line in listing(script)))
-
-
-def main(words):
-    if words[0] == "cases":
-        print_cases(int(words[1]), int(words[2]))
-        return 0
-    count = int(words[1]) if len(words) > 1 else 2000
-    seed = int(words[2]) if len(words) > 2 else random.randrange(2**32)
-    wanted = lambda script: "".join(f"{line}\n" for line in listing(script))
-    return Comparison([words[0], "arrivals"], wanted, BATCH).run(scripts(seed, count), seed)
-
-
 if __name__ == "__main__":
-    sys.exit(main(sys.argv[1:]))
+    sys.exit(main(sys.argv[1:], "arrivals", listing, Maker))

@@ -1,9 +1,16 @@
 """Holds what a program prints of scripts to what a second reader makes of them."""
 
 import os
+import random
 import subprocess
 import sys
 import tempfile
+
+# How many scripts the program is given at once.
+BATCH = 50
+
+# One script of so many is long.
+LONG = 50
 
 
 class Comparison:
@@ -58,3 +65,28 @@ class Comparison:
         print(f"differs: {file.name}\nfound\n{output}\nexpected\n{wanted}")
         sys.stdout.flush()
         return True
+
+
+def scripts(maker, seed, count):
+    """So many scripts at random, of a maker that takes the source of chance."""
+    made = maker(random.Random(seed))
+    return (made.script(number % LONG == LONG - 1) for number in range(count))
+
+
+def print_cases(maker, listing, seed, count):
+    for number, script in enumerate(scripts(maker, seed, count)):
+        print(f"\ncase script {number}\n{script}" + "\n".join(f"gives {line}" for line in listing(script)))
+
+
+def main(words, command, listing, maker):
+    """Does what the words of a script ask for: it prints cases, or compares what a command of a program prints of scripts
+    with a second reader's listing."""
+    if words[0] == "cases":
+        count, seed = map(int, words[1:])
+        print(f"# What `{command}` prints of scripts at random: written by `tools/{os.path.basename(sys.argv[0])} cases {count} {seed}`.")
+        print_cases(maker, listing, seed, count)
+        return 0
+    count = int(words[1]) if len(words) > 1 else 2000
+    seed = int(words[2]) if len(words) > 2 else random.randrange(2**32)
+    wanted = lambda script: "".join(f"{line}\n" for line in listing(script))
+    return Comparison([words[0], command], wanted, BATCH).run(scripts(maker, seed, count), seed)

@@ -8,7 +8,7 @@ Each template is looked up afresh in all template records before, and nothing el
     ("message", INPUT, SESSION, DOMAIN, EXPORT, SEQUENCE, SETS)
 
 with each set that has records as (TEMPLATE ID, DEFINITION, RECORDS), a definition as tools/decoded.py has it, and a record
-as the values of its fields.
+as the values of its fields, with the octet of the message at which it begins and its octets.
 """
 
 import sys
@@ -16,7 +16,7 @@ import sys
 sys.dont_write_bytecode = True
 
 from arrivals import answers, event_of, input_of
-from decoded import Malformed, number, records_of, sets_of, template_records_of
+from decoded import Malformed, least, number, record_of, sets_of, template_records_of
 
 COUNTS = (
     "sessions messages records malformed late skipped ignored redefined lost disordered torn broken refused crowded stray"
@@ -27,13 +27,39 @@ TEMPLATES, OPTIONS = 2, 3
 
 
 class Message:
-    """A well-formed message: the numbers of its header, and its sets as (ID, body, template records)."""
+    """A well-formed message: the numbers of its header, and its sets as (ID, place of the body, body, template records)."""
 
     def __init__(self, octets):
         if len(octets) < 16 or number(octets[:2]) != 10 or number(octets[2:4]) != len(octets):
             raise Malformed
         self.export, self.sequence, self.domain = (number(octets[at : at + 4]) for at in (4, 8, 12))
-        self.sets = [(id, body, list(touches_of(id, body, self.export))) for id, body in sets_of(octets)]
+        self.sets = []
+        at = 16
+        for id, body in sets_of(octets):
+            self.sets.append((id, at + 4, body, list(touches_of(id, body, self.export))))
+            at += 4 + len(body)
+
+
+class Record(list):
+    """The values of a record, with the octet of the message at which it begins, counted from 0, and its octets."""
+
+    def __init__(self, values, start, octets):
+        super().__init__(values)
+        self.start, self.octets = start, octets
+
+
+def records_at(start, fields, body):
+    """The records of a body that begins at an octet of the message; None where it has no cutting into records and padding."""
+    records = []
+    while len(body) >= least(fields):
+        found = record_of(fields, body)
+        if found is None:
+            return None
+        values, rest = found
+        size = len(body) - len(rest)
+        records.append(Record(values, start, body[:size]))
+        start, body = start + size, rest
+    return records
 
 
 class Touch:
@@ -131,13 +157,13 @@ class Decoder:
 
     def taken(self, domain, message):
         decoded, skipped = [], 0
-        for id, body, touches in message.sets:
+        for id, start, body, touches in message.sets:
             for touch in touches:
                 self.touched(domain, touch)
             if id in (TEMPLATES, OPTIONS):
                 continue
             definition = self.valid(domain.touches, id, message.export) if id >= 256 else None
-            records = records_of(definition[2], body) if definition else None
+            records = records_at(start, definition[2], body) if definition else None
             if records is None:
                 skipped += 1
             elif records:

@@ -1,23 +1,12 @@
 // What inputs give of a script's sources.
-use crate::fault::Fault;
-use crate::part::hexadecimal;
-use crate::script::Script;
-use col_base::{SessionKey, Transport};
+use config_spec::InputConf;
 use input_lane::{Inlet, InletAnswer};
 use pipeline_message::LaneFault;
+use script_text::{Fault, Script, description_of, hexadecimal, key_text, transport_word};
 use session_table::Arrival;
 use site_io::{MemorySite, MemorySource, Site};
-use startup_config::{Conf, ConfFault, InputConf};
 use std::alloc::{AllocError, Global};
 use std::fmt::Write;
-
-fn transport_word(transport: Transport) -> &'static str {
-    match transport {
-        Transport::Tcp => "tcp",
-        Transport::Udp => "udp",
-        Transport::File => "file",
-    }
-}
 
 fn fault_word(fault: LaneFault) -> &'static str {
     match fault {
@@ -26,12 +15,6 @@ fn fault_word(fault: LaneFault) -> &'static str {
         LaneFault::NoMemory => "memory",
         LaneFault::Sink | LaneFault::Limit(_) => "other",
     }
-}
-
-/// The numbers of an input and of its session.
-fn key_text(alloc: Global, key: SessionKey) -> Result<String, AllocError> {
-    let SessionKey { input, number } = key;
-    format!(in alloc; "{input}/{number}")
 }
 
 /// The line of an arrival.
@@ -139,22 +122,10 @@ fn put_left(text: &mut String, site: &MemorySite, conf: &InputConf) -> Result<()
     }
 }
 
-/// The description of a Site's text `conf`.
-fn conf_of(alloc: Global, site: &mut MemorySite) -> Result<Conf, Fault> {
-    let Ok(octets) = site.text("conf") else {
-        return Err(Fault::Wrong("a text `conf` is wanted"));
-    };
-    match startup_config::read(alloc, octets.as_slice()) {
-        Ok(conf) => Ok(conf),
-        Err(ConfFault::NoMemory) => Err(Fault::NoMemory),
-        Err(_) => Err(Fault::Wrong("the text `conf` is no description")),
-    }
-}
-
 /// What the inputs of a script's description give, one behind another, as lines.
 pub fn arrivals_text(alloc: Global, script: Script) -> Result<String, Fault> {
     let (_, mut site) = script.into_call(alloc)?;
-    let conf = conf_of(alloc, &mut site)?;
+    let conf = description_of(alloc, &mut site)?;
     let mut text = String::new(alloc);
     let mut input: u16 = 0;
     for each in conf.inputs.as_slice() {

@@ -1,85 +1,50 @@
-// A case: a script, and what its call is to leave or its inputs are to give.
+// What came of a case.
 use crate::arrivals::arrivals_text;
-use crate::fault::Fault;
-use crate::given::Given;
 use crate::played::play;
-use crate::script::Script;
-use crate::wanted::Wanted;
-use std::alloc::{AllocError, Global};
-use std::rt::Clock;
-use std::sync::Wait;
+use crate::wanted::differs;
+use script_text::{Case, Fault, Given, Player, Report, Script, Wanted};
+use std::alloc::Global;
 
-/// A script with a name, and what its call is to leave, or what the inputs of its description are to give.
-#[derive(Drop)]
-pub struct Case {
-    name: String,
-    pub script: Script,
-    wanted: Vec<Wanted>,
-    pub given: Given,
+/// Makes the call of a case, or asks the inputs of its description. A case wants what the one leaves, or what the others give.
+pub struct Calls<'a> {
+    pub rt: &'a HostRuntime,
 }
 
-/// What was found of a case.
-#[derive(Drop)]
-struct Report {
-    name: String,
-    text: String,
+/// Asks the inputs, and tells what they gave otherwise.
+fn ask(alloc: Global, script: Script, given: &Given, report: &mut Report) -> Result<(), Fault> {
+    let found = arrivals_text(alloc, script)?;
+    report.tell(given.differs(alloc, found.as_str())?)?;
+    Ok(())
 }
 
-impl Report {
-    /// Tells what is otherwise, if something is.
-    fn tell(&mut self, difference: Option<String>) -> Result<(), AllocError> {
-        let Some(difference) = difference else {
-            return Ok(());
-        };
-        self.text.push_str("case ")?;
-        self.text.push_str(self.name.as_str())?;
-        self.text.push_str(": ")?;
-        self.text.push_str(difference.as_str())?;
-        self.text.push_str("\n")
+/// Makes the call, and tells what it left otherwise.
+fn call(
+    rt: &HostRuntime,
+    alloc: Global,
+    script: Script,
+    wanted: &[Wanted],
+    report: &mut Report,
+) -> Result<(), Fault> {
+    let played = play(rt, alloc, script)?;
+    for each in wanted {
+        report.tell(differs(alloc, each, &played)?)?;
     }
+    Ok(())
 }
 
-impl Case {
-    pub fn new(alloc: Global, name: &str) -> Result<Self, Fault> {
-        Ok(Case {
-            name: String::from_str(alloc, name)?,
-            script: Script::new(alloc),
-            wanted: Vec::new(alloc),
-            given: Given::new(alloc),
-        })
-    }
-
-    /// One thing more that is wanted.
-    pub fn want(&mut self, wanted: Wanted) -> Result<(), Fault> {
-        self.wanted.push(wanted)?;
-        Ok(())
-    }
-
-    /// Makes the call, or asks the inputs, and answers a line for each thing that came otherwise. A case wants what the one
-    /// leaves, or what the others give.
-    pub fn differences<R: Wait + Clock>(self, rt: &R, alloc: Global) -> Result<String, Fault> {
+impl Player for Calls<'_> {
+    fn play(&self, alloc: Global, case: Case, report: &mut Report) -> Result<(), Fault> {
         let Case {
-            name,
             script,
             wanted,
             given,
-        } = self;
-        let text = String::new(alloc);
-        let mut report = Report { name, text };
+            ..
+        } = case;
         match (wanted.is_empty(), given.is_empty()) {
-            (true, true) => return Err(Fault::Wrong("the case before wants nothing")),
-            (false, false) => return Err(Fault::Wrong("the case before wants both kinds")),
-            (true, false) => {
-                let found = arrivals_text(alloc, script)?;
-                report.tell(given.differs(alloc, found.as_str())?)?;
-            }
-            (false, true) => {
-                let played = play(rt, alloc, script)?;
-                for each in wanted.as_slice() {
-                    report.tell(each.differs(alloc, &played)?)?;
-                }
-            }
+            (true, true) => Err(Fault::Wrong("the case before wants nothing")),
+            (false, false) => Err(Fault::Wrong("the case before wants both kinds")),
+            (true, false) => ask(alloc, script, &given, report),
+            (false, true) => call(self.rt, alloc, script, wanted.as_slice(), report),
         }
-        Ok(report.text)
     }
 }

@@ -1,9 +1,7 @@
 // What a script's call left.
-use crate::part::hexadecimal;
-use crate::planned::PlannedSink;
-use crate::script::Script;
 use col_base::Text;
 use collector_top::collect_main;
+use script_text::{PlannedSink, Script, hexadecimal};
 use site_io::MemorySite;
 use std::alloc::{AllocError, Global};
 use std::rt::Clock;

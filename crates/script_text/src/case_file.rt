@@ -1,6 +1,6 @@
 // A file of cases.
 use crate::block::{Block, with_octets};
-use crate::case::Case;
+use crate::case::{Case, Player, Report};
 use crate::each::Each;
 use crate::fault::Fault;
 use crate::part::parts_of;
@@ -8,8 +8,6 @@ use crate::pieces::Pieces;
 use crate::wanted::wanted_of;
 use std::alloc::Global;
 use std::mem;
-use std::rt::Clock;
-use std::sync::Wait;
 
 /// What was read of a file of cases. A case is played as soon as the next one begins.
 #[derive(Drop)]
@@ -55,10 +53,10 @@ impl CaseFile {
     }
 
     /// Takes the next line.
-    pub fn take_line<R: Wait + Clock>(
+    pub fn take_line<P: Player>(
         &mut self,
-        rt: &R,
         alloc: Global,
+        player: &P,
         line: &str,
     ) -> Result<(), Fault> {
         if line.is_empty() || line.starts_with('#') {
@@ -69,18 +67,18 @@ impl CaseFile {
                 return Ok(());
             }
         }
-        self.end_block(rt, alloc)?;
+        self.end_block(alloc, player)?;
         if let Some(each) = &mut self.each {
             if each.takes(alloc, line)? {
                 return Ok(());
             }
         }
-        self.end_each(rt, alloc)?;
-        self.begin(rt, alloc, line)
+        self.end_each(alloc, player)?;
+        self.begin(alloc, player, line)
     }
 
     /// Takes a line that belongs to none before it.
-    fn begin<R: Wait + Clock>(&mut self, rt: &R, alloc: Global, line: &str) -> Result<(), Fault> {
+    fn begin<P: Player>(&mut self, alloc: Global, player: &P, line: &str) -> Result<(), Fault> {
         if let Some(block) = Block::begun(alloc, line)? {
             self.block = Some(block);
             return Ok(());
@@ -89,45 +87,46 @@ impl CaseFile {
             self.each = Some(each);
             return Ok(());
         }
-        self.take_plain(rt, alloc, line)
+        self.take_plain(alloc, player, line)
     }
 
     /// Plays the last case.
-    pub fn end<R: Wait + Clock>(&mut self, rt: &R, alloc: Global) -> Result<(), Fault> {
-        self.end_block(rt, alloc)?;
-        self.end_each(rt, alloc)?;
-        self.end_case(rt, alloc)
+    pub fn end<P: Player>(&mut self, alloc: Global, player: &P) -> Result<(), Fault> {
+        self.end_block(alloc, player)?;
+        self.end_each(alloc, player)?;
+        self.end_case(alloc, player)
     }
 
-    fn end_block<R: Wait + Clock>(&mut self, rt: &R, alloc: Global) -> Result<(), Fault> {
+    fn end_block<P: Player>(&mut self, alloc: Global, player: &P) -> Result<(), Fault> {
         match mem::replace(&mut self.block, None) {
             Some(block) => {
                 let line = block.ended(alloc)?;
-                self.take_plain(rt, alloc, line.as_str())
+                self.take_plain(alloc, player, line.as_str())
             }
             None => Ok(()),
         }
     }
 
-    fn end_each<R: Wait + Clock>(&mut self, rt: &R, alloc: Global) -> Result<(), Fault> {
+    fn end_each<P: Player>(&mut self, alloc: Global, player: &P) -> Result<(), Fault> {
         let Some(each) = mem::replace(&mut self.each, None) else {
             return Ok(());
         };
         for line in each.ended(alloc)? {
-            self.take_plain(rt, alloc, line.as_str())?;
+            self.take_plain(alloc, player, line.as_str())?;
         }
         Ok(())
     }
 
-    fn end_case<R: Wait + Clock>(&mut self, rt: &R, alloc: Global) -> Result<(), Fault> {
+    fn end_case<P: Player>(&mut self, alloc: Global, player: &P) -> Result<(), Fault> {
         let Some(case) = mem::replace(&mut self.case, None) else {
             return Ok(());
         };
-        let differences = case.differences(rt, alloc)?;
+        let mut report = Report::new(alloc, case.name.as_str())?;
+        player.play(alloc, case, &mut report)?;
         self.cases = self.cases.saturating_add(1);
-        if !differences.is_empty() {
+        if !report.lines().is_empty() {
             self.failed = self.failed.saturating_add(1);
-            self.told.push_str(differences.as_str())?;
+            self.told.push_str(report.lines())?;
         }
         Ok(())
     }
@@ -141,31 +140,31 @@ impl CaseFile {
     }
 
     /// Takes a line whose octets stand in it, as hexadecimal digits or by the names of pieces.
-    fn take_plain<R: Wait + Clock>(
+    fn take_plain<P: Player>(
         &mut self,
-        rt: &R,
         alloc: Global,
+        player: &P,
         line: &str,
     ) -> Result<(), Fault> {
         match line.rsplit_once(' ') {
             Some((front, spelled)) if spelled.contains('@') => {
                 let octets = self.pieces.octets(alloc, spelled)?;
                 let line = with_octets(alloc, front, octets.as_slice())?;
-                self.take_spelled(rt, alloc, line.as_str())
+                self.take_spelled(alloc, player, line.as_str())
             }
-            _ => self.take_spelled(rt, alloc, line),
+            _ => self.take_spelled(alloc, player, line),
         }
     }
 
     /// Takes a line whose octets stand in it as hexadecimal digits.
-    fn take_spelled<R: Wait + Clock>(
+    fn take_spelled<P: Player>(
         &mut self,
-        rt: &R,
         alloc: Global,
+        player: &P,
         line: &str,
     ) -> Result<(), Fault> {
         if let Some(name) = line.strip_prefix("case ") {
-            self.end_case(rt, alloc)?;
+            self.end_case(alloc, player)?;
             self.case = Some(Case::new(alloc, name)?);
             return Ok(());
         }

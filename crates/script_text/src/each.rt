@@ -1,9 +1,36 @@
 // Lines that stand for many.
 use crate::fault::Fault;
-use crate::part::number;
-use std::alloc::{AllocError, Global};
+use crate::part::{hexadecimal, number};
+use std::alloc::Global;
 
-/// Lines that stand for as many as there are numbers: for each number all of them, with it in the place of each `#`.
+/// How many numbers of 32 bits there are.
+const NUMBERS: u64 = 4294967296;
+
+/// The line for a number: with it in decimal in the place of each `#`, and with as many times it in the place of each
+/// `%TIMES%`, in eight hexadecimal digits.
+fn line_for(alloc: Global, line: &str, number: u64) -> Result<String, Fault> {
+    let digits = number.to_string(alloc)?;
+    let line = line.replace(alloc, "#", digits.as_str())?;
+    let mut text = String::new(alloc);
+    let mut is_factor = false;
+    for part in line.as_str().split('%') {
+        if is_factor {
+            text.push_str(product_of(alloc, part, number)?.as_str())?;
+        } else {
+            text.push_str(part)?;
+        }
+        is_factor = !is_factor;
+    }
+    Ok(text)
+}
+
+/// So many times a number, modulo 2^32, in eight hexadecimal digits.
+fn product_of(alloc: Global, times: &str, of: u64) -> Result<String, Fault> {
+    let product = number(times, 65535)?.wrapping_mul(of) % NUMBERS;
+    Ok(hexadecimal(alloc, &(product as u32).to_be_bytes())?)
+}
+
+/// Lines that stand for as many as there are numbers: for each number all of them.
 #[derive(Drop)]
 pub struct Each {
     first: u64,
@@ -42,12 +69,11 @@ impl Each {
     }
 
     /// The lines that they stand for.
-    pub fn ended(&self, alloc: Global) -> Result<Vec<String>, AllocError> {
+    pub fn ended(&self, alloc: Global) -> Result<Vec<String>, Fault> {
         let mut lines = Vec::new(alloc);
         for number in self.first..=self.last {
-            let digits = number.to_string(alloc)?;
             for line in self.lines.as_slice() {
-                lines.push(line.replace(alloc, "#", digits.as_str())?)?;
+                lines.push(line_for(alloc, line.as_str(), number)?)?;
             }
         }
         Ok(lines)
