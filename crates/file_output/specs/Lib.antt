@@ -3,3 +3,7 @@ pub mod Stands
 pub mod Same
 pub mod Fault
 pub mod Domains
+pub mod Within
+pub mod Placed
+pub mod FileSets
+pub mod Counted

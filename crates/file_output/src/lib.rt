@@ -7,16 +7,21 @@
 //! apart.
 #![tactic(auto)]
 
+mod counting;
 mod domain;
 mod fault;
+mod file_set;
 mod head;
 mod kept;
 mod known;
 mod message;
 mod numbering;
+mod placed;
 mod records;
 mod used;
 
 pub use fault::FileFault;
+pub use file_set::{FileSet, FileSets};
 pub use kept::Numbering;
+pub use placed::PlacedSet;
 pub use records::SetRecords;

@@ -1,15 +1,21 @@
 // The numbers of a file's definitions.
 ghost use Rattle.std.specs.Prelude.{◌≡◌, ◌≤◌, ◌<◌, ◌+◌, ◌++◌, [], ◌∷◌, ◌==◌, if◌then◌else◌, length, find, nat_lt, None, Some, IfErr, OnOk, OnErr, List, ℕ};
+ghost use Rattle.std.specs.List.{AllByRecursion};
 ghost use Rattle.run_spec.specs.Work.{Item};
 ghost use Rattle.file_spec.specs.File.{needed_by};
 ghost use Rattle.file_output.specs.Fault.{AtLimit};
 ghost use Rattle.file_output.specs.Sets.{domain_after, head_in, numbers_in, sets_size, written_in};
 ghost use Rattle.file_output.specs.Stands.{domain_in, IsItemOf, IsPut, StandsFor};
 ghost use Rattle.file_output.specs.Domains.{new_domain};
+ghost use Rattle.file_output.specs.FileSets.{HasRecords, IsFileItem, file_sets_size};
+ghost use Rattle.file_output.specs.Placed.{IsPlacedItem, placed_sets_size};
 
+use crate::counting::count_sets;
 use crate::domain::DomainNumbers;
 use crate::fault::FileFault;
+use crate::file_set::FileSets;
 use crate::kept::Numbering;
+use crate::placed::PlacedSet;
 use crate::records::SetRecords;
 use col_base::Octets;
 use indexmap::IndexMap;
@@ -48,6 +54,58 @@ impl Numbering {
         ensures last { self.new.last ≡ self.old.last }
     {
         match self.put_sets(domain, export, sets, out) {
+            Ok(()) => Ok(()),
+            Err(fault) => Err(fault),
+        }
+    }
+
+    /// The same of sets whose octets are joined already: each are the octets of a record of its definition or of more, without
+    /// padding. The data message and the message of each definition have at most 65,535 octets.
+    pub fn put_message(
+        &mut self,
+        domain: u32,
+        export: u32,
+        sets: &FileSets,
+        out: &mut Octets,
+    ) -> Result<(), FileFault>
+        requires records { AllByRecursion HasRecords sets.now.items }
+        requires room { 16 + file_sets_size sets.now.items ≤ 65535 }
+        ensures ok { OnOk result ((items : List Item) (item : Item) → StandsFor items self.old → IsFileItem domain export sets.now.items item
+            → IsPut self.old.last items item self.new out.old out.new) }
+        ensures limit { IfErr result (AtLimit (λ n. (items : List Item) (item : Item) → StandsFor items self.old → IsFileItem domain export sets.now.items item
+            → find (nat_lt self.old.last) (needed_by (items ++ item ∷ []) item) ≡ Some n)) }
+        ensures kept { OnErr result ((d : ℕ) → domain_in self.new d ≡ domain_in self.old d) }
+        ensures unwritten { OnErr result (out.new ≡ out.old) }
+        ensures last { self.new.last ≡ self.old.last }
+    {
+        let Ok(counted) = count_sets(self.alloc, sets) else {
+            return Err(FileFault::NoMemory);
+        };
+        match self.put(domain, export, &counted, out) {
+            Ok(()) => Ok(()),
+            Err(fault) => Err(fault),
+        }
+    }
+
+    /// The same of records where they stand: at places of the octets of a message, or of a room behind intermediates. Each is
+    /// copied once, and those that lie beside one another are copied together.
+    pub fn put_placed(
+        &mut self,
+        domain: u32,
+        export: u32,
+        sets: &[PlacedSet<'_>],
+        out: &mut Octets,
+    ) -> Result<(), FileFault>
+        requires { 16 + placed_sets_size sets.now ≤ 65535 }
+        ensures ok { OnOk result ((items : List Item) (item : Item) → StandsFor items self.old → IsPlacedItem domain export sets.now item
+            → IsPut self.old.last items item self.new out.old out.new) }
+        ensures limit { IfErr result (AtLimit (λ n. (items : List Item) (item : Item) → StandsFor items self.old → IsPlacedItem domain export sets.now item
+            → find (nat_lt self.old.last) (needed_by (items ++ item ∷ []) item) ≡ Some n)) }
+        ensures kept { OnErr result ((d : ℕ) → domain_in self.new d ≡ domain_in self.old d) }
+        ensures unwritten { OnErr result (out.new ≡ out.old) }
+        ensures last { self.new.last ≡ self.old.last }
+    {
+        match self.put(domain, export, sets, out) {
             Ok(()) => Ok(()),
             Err(fault) => Err(fault),
         }
