@@ -73,7 +73,7 @@ collect() {
     fi
 }
 collect simple 'sessions=1 messages=1 records=1' flows.json cat <<< "$flow"
-collect two_files 'sessions=2 messages=2 records=101' flows.json 'wc -l' <<< 101
+collect two_files 'sessions=2 messages=2 records=3' flows.json 'wc -l' <<< 3
 collect two_files 'sessions=2' order.log 'od -An -tu1 | tr -d " \n"' <<< 000000010101
 collect filter 'records=100' flows.json 'grep -c "10\.0\.4\."' <<< 10
 collect anonymise 'records=100' flows.json 'grep -c "198\.51\..*192\.0\.2\.0\""' <<< 100
