@@ -22,7 +22,7 @@ import tempfile
 import time
 
 HERE = os.path.dirname(os.path.abspath(__file__))
-PROGRAM = os.path.join(HERE, "..", "crates", "ipfixcol", "out", "ipfixcol")
+PROGRAM = os.environ.get("PROGRAM") or os.path.join(HERE, "..", "crates", "ipfixcol", "out", "ipfixcol")
 RECORDS = 11
 EMPTY = bytes.fromhex("000a0010655b71000000000000000002")  # a message of another domain, without sets
 OVER = 1000  # so many events are topped up, with empty messages

@@ -1,0 +1,208 @@
+#!/usr/bin/env python3
+"""try_collect.py PROGRAM: tries `PROGRAM collect` over sockets of loopback, and prints what isn't as it is to be.
+
+- a message over TCP in two pieces with a second between them, and one over UDP
+- 100 connections at once, each with a template of its own under the same ID
+- a connection that sends a bad header, one that ends within a message and one that says nothing, while others go on
+- datagrams of no octet and of 65,507
+- 600 connections at once to a process that may have 64 descriptors: all are taken in the end
+- UDP, TCP and a file in one run, with its order log
+- addresses that are names, that are taken, and that stand twice
+
+Each run ends by `stop-after`. It takes some 40 seconds.
+"""
+import collections
+import json
+import os
+import resource
+import socket
+import subprocess
+import sys
+import tempfile
+import time
+
+PROGRAM = os.path.abspath(sys.argv[1])
+EXAMPLES = os.path.join(os.path.dirname(os.path.abspath(__file__)), "..", "examples")
+DESCRIPTORS = 64
+MANY = 600
+SOURCE = bytes.fromhex("000a002400000064000000000000000100020 00c0100000100080004 01000008 0a000001".replace(" ", ""))
+wrong = 0
+
+
+def tell(what):
+    global wrong
+    wrong += 1
+    print(what)
+
+
+def wants(what, found, expected):
+    if found != expected:
+        tell(f"{what}: {found}, not {expected}")
+
+
+def flow(element, address):
+    """A message with a template of one address, under ID 256, and a record of it."""
+    body = bytes.fromhex("0002000c01000001") + element.to_bytes(2, "big") + bytes.fromhex("0004" "01000008") + bytes(address)
+    return bytes.fromhex("000a") + (16 + len(body)).to_bytes(2, "big") + bytes.fromhex("000000640000000000000001") + body
+
+
+def free_port(kind=socket.SOCK_STREAM):
+    with socket.socket(socket.AF_INET, kind) as free:
+        free.bind(("127.0.0.1", 0))
+        return free.getsockname()[1]
+
+
+class Run:
+    """A run of inputs, each its kind, its place and when it ends."""
+
+    def __init__(self, folder, inputs, descriptors=None):
+        self.out, self.log = os.path.join(folder, "out.json"), os.path.join(folder, "order.log")
+        lines = ["version = 1"] + ([f'order-log = "{self.log}"'] if len(inputs) > 1 else [])
+        for number, (kind, place, stop) in enumerate(inputs):
+            key = "path" if kind == "file" else "listen"
+            lines += ["[[input]]", f'name = "i{number}"', f'kind = "{kind}"', f'{key} = "{place}"', f"stop-after = {stop}"]
+        lines += ["[[output]]", 'name = "o"', 'kind = "json"', f'path = "{self.out}"', ""]
+        path = os.path.join(folder, "run.toml")
+        with open(path, "w", encoding="utf-8") as file:
+            file.write("\n".join(lines))
+        limit = (lambda: resource.setrlimit(resource.RLIMIT_NOFILE, (descriptors, descriptors))) if descriptors else None
+        self.process = subprocess.Popen([PROGRAM, "collect", "-c", path], stdout=subprocess.PIPE, preexec_fn=limit)
+        for kind, place, _ in inputs:
+            if kind != "file":
+                self.wait_for(kind, int(place.rsplit(":", 1)[1]))
+
+    def wait_for(self, kind, port):
+        row = f" 0100007F:{port:04X} "
+        for _ in range(250):
+            with open(f"/proc/net/{kind}", encoding="ascii") as table:
+                if self.process.poll() is not None or any(row in line for line in table):
+                    return
+            time.sleep(0.02)
+
+    def ended(self):
+        """The status, the counts, and the lines of the output."""
+        printed = self.process.communicate(timeout=60)[0].decode()
+        counts = {name: number for name, _, number in (line.rpartition(" ") for line in printed.splitlines())}
+        with open(self.out, encoding="utf-8") as file:
+            return self.process.returncode, counts, [json.loads(line) for line in file]
+
+
+def connection(port):
+    return socket.create_connection(("127.0.0.1", port))
+
+
+def counted(what, run, records, **expected):
+    status, counts, lines = run.ended()
+    wants(f"{what}: status", status, 0)
+    for name, number in ({"records": records} | expected).items():
+        wants(f"{what}: {name}", counts.get(name), str(number))
+    wants(f"{what}: lines", len(lines), records)
+    return lines
+
+
+def in_pieces(folder):
+    port = free_port()
+    run = Run(folder, [("tcp", f"127.0.0.1:{port}", 7)])
+    with connection(port) as peer:
+        peer.sendall(SOURCE[:20])
+        time.sleep(1.2)
+        peer.sendall(SOURCE[20:])
+        time.sleep(0.2)
+    counted("a message in two pieces", run, 1, sessions=1, messages=1, torn=0)
+
+
+def datagrams(folder):
+    port = free_port(socket.SOCK_DGRAM)
+    run = Run(folder, [("udp", f"127.0.0.1:{port}", 5)])
+    long = bytearray(65507)
+    with socket.socket(socket.AF_INET, socket.SOCK_DGRAM) as peer:
+        for octets in (SOURCE, b"", bytes(long), SOURCE):
+            peer.sendto(octets, ("127.0.0.1", port))
+            time.sleep(0.05)
+    counted("datagrams of no octet and of the most", run, 2, sessions=1, messages=2, malformed=2)
+
+
+def many_templates(folder):
+    port = free_port()
+    run = Run(folder, [("tcp", f"127.0.0.1:{port}", 310)])
+    peers = [connection(port) for _ in range(100)]
+    for number, peer in enumerate(peers):
+        peer.sendall(flow(8 if number % 2 else 12, (10, 0, 0, number)))
+    for peer in peers:
+        peer.close()
+    lines = counted("100 connections", run, 100, sessions=100, messages=100)
+    found = collections.Counter("iana:sourceIPv4Address" in line for line in lines)
+    wants("100 connections: each by its own template", dict(found), {True: 50, False: 50})
+
+
+def strange_peers(folder):
+    port = free_port()
+    run = Run(folder, [("tcp", f"127.0.0.1:{port}", 14)])
+    silent, bad, torn, good = (connection(port) for _ in range(4))
+    bad.sendall(b"GET / HTTP/1.1\r\n\r\n")
+    torn.sendall(SOURCE[:30])
+    torn.close()
+    time.sleep(0.3)
+    good.sendall(SOURCE)
+    time.sleep(0.3)
+    counted("strange peers", run, 1, sessions=4, broken=1, torn=1)
+    for peer in (silent, bad, good):
+        peer.close()
+
+
+def few_descriptors(folder):
+    port = free_port()
+    run = Run(folder, [("tcp", f"127.0.0.1:{port}", 3 * MANY + 8)], DESCRIPTORS)
+    peers = [connection(port) for _ in range(MANY)]
+    for peer in peers:
+        peer.sendall(SOURCE)
+        peer.shutdown(socket.SHUT_WR)
+    status, counts, lines = run.ended()
+    wants("few descriptors: status", status, 0)
+    wants("few descriptors: sessions", counts["sessions"], str(MANY))
+    wants("few descriptors: lines", len(lines), int(counts["records"]))
+    for peer in peers:
+        peer.close()
+
+
+def three_kinds(folder):
+    udp, tcp = free_port(socket.SOCK_DGRAM), free_port()
+    file = os.path.join(EXAMPLES, "two_flows.ipfix")
+    run = Run(folder, [("udp", f"127.0.0.1:{udp}", 5), ("file", file, 0), ("tcp", f"127.0.0.1:{tcp}", 7)])
+    with socket.socket(socket.AF_INET, socket.SOCK_DGRAM) as peer, connection(tcp) as stream:
+        peer.sendto(SOURCE, ("127.0.0.1", udp))
+        stream.sendall(SOURCE + SOURCE)
+        time.sleep(0.3)
+    counted("three kinds", run, 5, sessions=3, messages=4)
+    with open(run.log, "rb") as log:
+        entries = log.read()
+    found = collections.Counter(entries[at : at + 2] for at in range(0, len(entries), 2))
+    wants("three kinds: entries of the file", found[b"\0\1"], 3)
+    wants("three kinds: entries of others", set(found), {b"\0\0", b"\0\1", b"\0\2"})
+
+
+def refused(folder):
+    taken = socket.socket(socket.AF_INET, socket.SOCK_DGRAM)
+    taken.bind(("127.0.0.1", 0))
+    port = free_port(socket.SOCK_DGRAM)
+    for what, inputs, line in (
+        ("a name", [("udp", "localhost:4739", 1)], "source fault: i0"),
+        ("a taken address", [("udp", f"127.0.0.1:{taken.getsockname()[1]}", 1)], "source fault: i0"),
+        ("an address twice", [("udp", f"127.0.0.1:{port}", 1), ("udp", f"127.0.0.1:{port}", 1)], "source fault: i1"),
+    ):
+        process = Run(folder, inputs).process
+        wants(f"{what}: line", process.communicate(timeout=20)[0].decode().strip(), line)
+        wants(f"{what}: status", process.returncode, 3)
+    taken.close()
+
+
+def main():
+    for attempt in (in_pieces, datagrams, many_templates, strange_peers, few_descriptors, three_kinds, refused):
+        with tempfile.TemporaryDirectory() as folder:
+            attempt(folder)
+    if not wrong:
+        print("all as it is to be")
+    sys.exit(wrong > 0)
+
+
+main()
