@@ -4,10 +4,13 @@ use crate::played::play;
 use crate::wanted::differs;
 use script_text::{Case, Fault, Given, Player, Report, Script, Wanted};
 use std::alloc::Global;
+use std::rt::Clock;
+use std::sync::Wait;
 
 /// Makes the call of a case, or asks the inputs of its description. A case wants what the one leaves, or what the others give.
-pub struct Calls<'a> {
-    pub rt: &'a HostRuntime,
+#[derive(Drop)]
+pub struct Calls<'a, R> {
+    pub rt: &'a R,
 }
 
 /// Asks the inputs, and tells what they gave otherwise.
@@ -18,8 +21,8 @@ fn ask(alloc: Global, script: Script, given: &Given, report: &mut Report) -> Res
 }
 
 /// Makes the call, and tells what it left otherwise.
-fn call(
-    rt: &HostRuntime,
+fn call<R: Wait + Clock>(
+    rt: &R,
     alloc: Global,
     script: Script,
     wanted: &[Wanted],
@@ -32,7 +35,7 @@ fn call(
     Ok(())
 }
 
-impl Player for Calls<'_> {
+impl<R: Wait + Clock> Player for Calls<'_, R> {
     fn play(&self, alloc: Global, case: Case, report: &mut Report) -> Result<(), Fault> {
         let Case {
             script,
