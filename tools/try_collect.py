@@ -8,12 +8,15 @@
 - 600 connections at once to a process that may have 64 descriptors: all are taken in the end
 - UDP, TCP and a file in one run, with its order log
 - addresses that are names, that are taken, and that stand twice
+- what a hostile peer sends: octets at random, messages that are cut anywhere, Lengths of 0 and of 65,535, datagrams from
+  5,000 ports, and 65,280 templates in each of 4 domains; and a run with little memory, whose output is whole lines
 
-Each run ends by `stop-after`. It takes some 40 seconds.
+Each run ends by `stop-after`. It takes about a minute. What the templates cost is printed.
 """
 import collections
 import json
 import os
+import random
 import resource
 import socket
 import subprocess
@@ -55,7 +58,7 @@ def free_port(kind=socket.SOCK_STREAM):
 class Run:
     """A run of inputs, each its kind, its place and when it ends."""
 
-    def __init__(self, folder, inputs, descriptors=None):
+    def __init__(self, folder, inputs, descriptors=None, memory=None):
         self.out, self.log = os.path.join(folder, "out.json"), os.path.join(folder, "order.log")
         lines = ["version = 1"] + ([f'order-log = "{self.log}"'] if len(inputs) > 1 else [])
         for number, (kind, place, stop) in enumerate(inputs):
@@ -65,7 +68,12 @@ class Run:
         path = os.path.join(folder, "run.toml")
         with open(path, "w", encoding="utf-8") as file:
             file.write("\n".join(lines))
-        limit = (lambda: resource.setrlimit(resource.RLIMIT_NOFILE, (descriptors, descriptors))) if descriptors else None
+
+        def limit():
+            for kind, most in ((resource.RLIMIT_NOFILE, descriptors), (resource.RLIMIT_AS, memory)):
+                if most:
+                    resource.setrlimit(kind, (most, most))
+
         self.process = subprocess.Popen([PROGRAM, "collect", "-c", path], stdout=subprocess.PIPE, preexec_fn=limit)
         for kind, place, _ in inputs:
             if kind != "file":
@@ -196,8 +204,116 @@ def refused(folder):
     taken.close()
 
 
+def to_udp(port, octets_of_each, pause=0.0002):
+    with socket.socket(socket.AF_INET, socket.SOCK_DGRAM) as peer:
+        for octets in octets_of_each:
+            peer.sendto(octets, ("127.0.0.1", port))
+            time.sleep(pause)
+
+
+def random_octets(folder):
+    source, udp, tcp = random.Random(7011), free_port(socket.SOCK_DGRAM), free_port()
+    run = Run(folder, [("udp", f"127.0.0.1:{udp}", 2008), ("tcp", f"127.0.0.1:{tcp}", 12)])
+    to_udp(udp, (source.randbytes(source.randrange(0, 1400)) for _ in range(2000)))
+    to_udp(udp, [SOURCE])
+    with connection(tcp) as peer:
+        peer.sendall(b"\0\x0a" + source.randbytes(60000))
+        time.sleep(0.5)
+    with connection(tcp) as peer:
+        peer.sendall(SOURCE)
+        time.sleep(0.2)
+    counted("octets at random", run, 2, messages=2, malformed=2000)
+
+
+def cut_anywhere(folder):
+    udp = free_port(socket.SOCK_DGRAM)
+    run = Run(folder, [("udp", f"127.0.0.1:{udp}", len(SOURCE) + 5)])
+    to_udp(udp, (SOURCE[:length] for length in range(len(SOURCE) + 1)))
+    counted("messages that are cut", run, 1, messages=1, malformed=len(SOURCE))
+
+
+def strange_lengths(folder):
+    tcp = free_port()
+    run = Run(folder, [("tcp", f"127.0.0.1:{tcp}", 13)])
+    none, most, good = (connection(tcp) for _ in range(3))
+    none.sendall(bytes.fromhex("000a0000") + bytes(100))
+    most.sendall(bytes.fromhex("000affff") + bytes(100))
+    most.close()
+    time.sleep(0.3)
+    good.sendall(SOURCE)
+    good.close()
+    time.sleep(0.3)
+    counted("strange lengths", run, 1, messages=1, broken=1, torn=1)
+    none.close()
+
+
+def many_ports(folder):
+    udp = free_port(socket.SOCK_DGRAM)
+    run = Run(folder, [("udp", f"127.0.0.1:{udp}", 5003)])
+    for _ in range(5000):
+        with socket.socket(socket.AF_INET, socket.SOCK_DGRAM) as peer:
+            peer.sendto(SOURCE, ("127.0.0.1", udp))
+    status, counts, lines = run.ended()
+    wants("5,000 ports: status", status, 0)
+    wants("5,000 ports: all came", int(counts["messages"]) + int(counts["refused"]), 5000)
+    wants("5,000 ports: sessions at most", int(counts["sessions"]) <= 4096, True)
+    wants("5,000 ports: lines", len(lines), int(counts["records"]))
+
+
+def flood():
+    """Messages with 65,280 templates of four fields in each of 4 domains, and then a record by one of each."""
+    fields = bytes.fromhex("00080004000c000400010008" "00020008")
+    for domain in range(4):
+        head = bytes.fromhex("00000064" "00000000") + domain.to_bytes(4, "big")
+        for first in range(256, 65536, 2000):
+            records = b"".join(number.to_bytes(2, "big") + b"\0\4" + fields for number in range(first, min(first + 2000, 65536)))
+            body = b"\0\2" + (4 + len(records)).to_bytes(2, "big") + records
+            yield b"\0\x0a" + (16 + len(body)).to_bytes(2, "big") + head + body
+        body = bytes.fromhex("ffff001c") + bytes(24)
+        yield b"\0\x0a" + (16 + len(body)).to_bytes(2, "big") + head + body
+
+
+def peak(process):
+    with open(f"/proc/{process.pid}/status", encoding="ascii") as status:
+        return next(int(line.split()[1]) // 1024 for line in status if line.startswith("VmHWM:"))
+
+
+def template_flood(folder):
+    tcp = free_port()
+    run = Run(folder, [("tcp", f"127.0.0.1:{tcp}", 0)])
+    begin = time.perf_counter()
+    with connection(tcp) as peer:
+        for message in flood():
+            peer.sendall(message)
+        for _ in range(1000):
+            if os.path.getsize(run.out) and sum(1 for _ in open(run.out, "rb")) == 4:
+                break
+            time.sleep(0.01)
+        spent = time.perf_counter() - begin
+        print(f"261,120 templates in 4 domains: {spent:.1f} s, {peak(run.process)} MB at most")
+        with open(run.out, encoding="utf-8") as file:
+            wants("a flood of templates: lines", len(file.readlines()), 4)
+    run.process.kill()
+    run.process.wait()
+
+
+def little_memory(folder):
+    """A file of templates without end, by a process that may have 16 MB: what it wrote is a first part of the lines."""
+    path = os.path.join(folder, "flood.ipfix")
+    with open(path, "wb") as file:
+        file.write(SOURCE + b"".join(flood()))
+    run = Run(folder, [("file", path, 0)], memory=16 << 20)
+    printed = run.process.communicate(timeout=60)[0].decode()
+    wants("little memory: status", run.process.returncode, 6)
+    wants("little memory: line", printed.splitlines()[:1], ["memory: i0"])
+    with open(run.out, encoding="utf-8") as file:
+        wants("little memory: lines", file.read().count("\n") >= 1, True)
+
+
 def main():
-    for attempt in (in_pieces, datagrams, many_templates, strange_peers, few_descriptors, three_kinds, refused):
+    attempts = (in_pieces, datagrams, many_templates, strange_peers, few_descriptors, three_kinds, refused)
+    hostile = (random_octets, cut_anywhere, strange_lengths, many_ports, template_flood, little_memory)
+    for attempt in attempts + hostile:
         with tempfile.TemporaryDirectory() as folder:
             attempt(folder)
     if not wrong:
