@@ -10,6 +10,8 @@
 - addresses that are names, that are taken, and that stand twice
 - what a hostile peer sends: octets at random, messages that are cut anywhere, Lengths of 0 and of 65,535, datagrams from
   5,000 ports, and 65,280 templates in each of 4 domains; and a run with little memory, whose output is whole lines
+- memory: 100,000 definitions of one ID, one after another, take no more than 1,000, and 10,000 connections that closed no
+  more than 1,000
 
 Each run ends by `stop-after`. It takes about a minute. What the templates cost is printed.
 """
@@ -310,10 +312,47 @@ def little_memory(folder):
         wants("little memory: lines", file.read().count("\n") >= 1, True)
 
 
+def definition(number):
+    """A message with a definition that no other number has, and a record of it."""
+    body = bytes.fromhex("000200100100000180010004") + number.to_bytes(4, "big") + bytes.fromhex("01000008") + number.to_bytes(4, "big")
+    return bytes.fromhex("000a002800000064") + number.to_bytes(4, "big") + bytes.fromhex("00000001") + body
+
+
+def many_definitions(folder):
+    most = {}
+    for count in (1000, 100000):
+        path = os.path.join(folder, "definitions.ipfix")
+        with open(path, "wb") as file:
+            file.write(b"".join(definition(number + 1) for number in range(count)))
+        run = Run(folder, [("file", path, 0)])
+        printed = run.process.stdout.read().decode()
+        _, status, used = os.wait4(run.process.pid, 0)
+        run.process.returncode = status
+        wants("many definitions: records", f"records {count}" in printed.splitlines(), True)
+        most[count] = used.ru_maxrss
+    wants("many definitions: KiB more", max(0, most[100000] - most[1000] - 256), 0)
+
+
+def many_sessions(folder):
+    port = free_port()
+    run = Run(folder, [("tcp", f"127.0.0.1:{port}", 0)])
+    held = []
+    for count in (1000, 9000):
+        for number in range(count):
+            with connection(port) as peer:
+                peer.sendall(definition(number + 1))
+        time.sleep(0.5)
+        with open(f"/proc/{run.process.pid}/status", encoding="ascii") as status:
+            held.append(next(int(line.split()[1]) for line in status if line.startswith("VmRSS:")))
+    wants("many sessions: KiB more", max(0, held[1] - held[0] - 512), 0)
+    run.process.kill()
+    run.process.wait()
+
+
 def main():
     attempts = (in_pieces, datagrams, many_templates, strange_peers, few_descriptors, three_kinds, refused)
     hostile = (random_octets, cut_anywhere, strange_lengths, many_ports, template_flood, little_memory)
-    for attempt in attempts + hostile:
+    for attempt in attempts + hostile + (many_definitions, many_sessions):
         with tempfile.TemporaryDirectory() as folder:
             attempt(folder)
     if not wrong:
