@@ -17,10 +17,9 @@ use std::time::Duration;
 /// How often an input that answers is asked before the next one.
 const QUESTIONS: usize = 1000;
 
-/// How long a run pauses where no input has anything more, in milliseconds. What comes over a socket meanwhile waits in the
-/// system's receive buffer, of up to 8 MiB: at 1 gigabit a second that fills in 60 milliseconds. Then it is taken at once,
-/// and the other inputs are asked once for all of it.
-const PAUSE: u64 = 1;
+/// How long a run pauses where no input has anything, in milliseconds. What comes over a socket meanwhile waits in the
+/// system's receive buffer, of up to 8 MiB: at 1 gigabit a second that fills in 60 milliseconds.
+const PAUSE: u64 = 5;
 
 /// Asks an input once, and hands its message on. Answers whether it may be asked again at once: it has not ended, and its
 /// source had something.
@@ -45,7 +44,7 @@ fn ask<S: Source, T: MessageTexts, K: Sink>(
     }
 }
 
-/// The turn of an input. Answers whether it may have more at once.
+/// The turn of an input. Answers whether anything came of it: an event, a message or its end.
 fn turn<S: Source, T: MessageTexts, K: Sink>(
     input: &mut Input<S>,
     taker: &mut LoggedOutput<T, K>,
@@ -58,15 +57,15 @@ fn turn<S: Source, T: MessageTexts, K: Sink>(
     if input.end().is_some() {
         return false;
     }
-    for _ in 0..QUESTIONS {
+    for asked in 0..QUESTIONS {
         if !ask(input, taker) {
-            return false;
+            return asked > 0 || input.end().is_some();
         }
     }
     true
 }
 
-/// A turn of each input. Answers whether one may have more at once.
+/// A turn of each input. Answers whether anything came of one.
 fn round<S: Source, T: MessageTexts, K: Sink>(
     inputs: &mut Vec<Input<S>>,
     taker: &mut LoggedOutput<T, K>,
@@ -76,11 +75,11 @@ fn round<S: Source, T: MessageTexts, K: Sink>(
     ensures follows { Follows S.left S.faults (Took T.stands K.held K.faults) inputs.old.items inputs.new.items taker.old taker.new }
     ensures nothing { result ≡ false → All (HadNothing S.left S.faults) inputs.new.items }
 {
-    let mut more = false;
+    let mut came = false;
     for i in 0..inputs.len() {
-        more |= turn(&mut inputs[i], taker);
+        came |= turn(&mut inputs[i], taker);
     }
-    more
+    came
 }
 
 /// Pauses where each input has ended or had nothing ready.
@@ -97,8 +96,8 @@ fn have_ended<S: Source>(inputs: &Vec<Input<S>>) -> bool
     inputs.iter().all(|input| input.end().is_some())
 }
 
-/// Asks all inputs in turn until they have ended, and hands each of their messages on. It returns once all have. Where none
-/// has more it pauses, for a millisecond, and it never pauses while an input has more.
+/// Asks all inputs in turn until they have ended, and hands each of their messages on. It returns once all have. Behind a
+/// round of which nothing came it pauses, for 5 milliseconds, and it never pauses while an input has more.
 pub fn ask_all<R: Wait + Clock, S: Source, T: MessageTexts, K: Sink>(
     rt: &R,
     inputs: &mut Vec<Input<S>>,
@@ -109,11 +108,10 @@ pub fn ask_all<R: Wait + Clock, S: Source, T: MessageTexts, K: Sink>(
     ensures follows { Follows S.left S.faults (Took T.stands K.held K.faults) inputs.old.items inputs.new.items taker.old taker.new }
 {
     for _ in rt.forever() {
-        let more = round(inputs, taker);
         if have_ended(inputs) {
             return;
         }
-        if !more {
+        if !round(inputs, taker) {
             pause(rt, inputs);
         }
     }

@@ -9,16 +9,12 @@ loop-init g c = (c.requires, ([], all_none g.S.Source.left g.S.Source.faults c.a
 
 pub loop-preserved : goal.loop-preserved
 loop-preserved g c = (
-  c.round-more.ensures.right,
-  follows_then g.S.Source.left g.S.Source.faults (Took g.T.MessageTexts.stands g.K.Sink.held g.K.Sink.faults) c.args.inputs.now.items c.loop.inputs.items c.round-more.new.inputs.items c.args.taker.now c.loop.taker c.round-more.new.taker c.loop.invariant.1 c.round-more.ensures.follows,
+  c.round.ensures.right,
+  follows_then g.S.Source.left g.S.Source.faults (Took g.T.MessageTexts.stands g.K.Sink.held g.K.Sink.faults) c.args.inputs.now.items c.loop.inputs.items c.round.new.inputs.items c.args.taker.now c.loop.taker c.round.new.taker c.loop.invariant.1 c.round.ensures.follows,
 )
 
-pub loop-preserved-then-not-more : goal.loop-preserved-then-not-more
-loop-preserved-then-not-more g c = (
-  c.round-more.ensures.right,
-  follows_then g.S.Source.left g.S.Source.faults (Took g.T.MessageTexts.stands g.K.Sink.held g.K.Sink.faults) c.args.inputs.now.items c.loop.inputs.items c.round-more.new.inputs.items c.args.taker.now c.loop.taker c.round-more.new.taker c.loop.invariant.1 c.round-more.ensures.follows,
+pub loop-preserved-then-not-round : goal.loop-preserved-then-not-round
+loop-preserved-then-not-round g c = (
+  c.round.ensures.right,
+  follows_then g.S.Source.left g.S.Source.faults (Took g.T.MessageTexts.stands g.K.Sink.held g.K.Sink.faults) c.args.inputs.now.items c.loop.inputs.items c.round.new.inputs.items c.args.taker.now c.loop.taker c.round.new.taker c.loop.invariant.1 c.round.ensures.follows,
 )
-
-pub returns-then-have_ended-clause-follows : goal.returns-then-have_ended-clause-follows
-returns-then-have_ended-clause-follows g c =
-    follows_then g.S.Source.left g.S.Source.faults (Took g.T.MessageTexts.stands g.K.Sink.held g.K.Sink.faults) c.args.inputs.now.items c.loop.inputs.items c.round-more.new.inputs.items c.args.taker.now c.loop.taker c.round-more.new.taker c.loop.invariant.1 c.round-more.ensures.follows
