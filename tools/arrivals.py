@@ -213,17 +213,29 @@ def script_of(text):
     return tomllib.loads(texts["conf"].decode()), sources, failing
 
 
+def place_of(table):
+    """Where an input reads or listens, by its table."""
+    return table["path"] if table["kind"] == "file" else table["listen"]
+
+
+def inputs_of(text):
+    """Of each input of a script its number, its table, the events of its source, which are None where it isn't there, and
+    the calls of it that fail."""
+    description, sources, failing = script_of(text)
+    for number, table in enumerate(description["input"]):
+        place = place_of(table)
+        yield number, table, sources.get(place), failing.get(place, ())
+
+
 def listing(text):
     """The lines of what the inputs of a script give."""
-    description, sources, failing = script_of(text)
     lines = []
-    for number, table in enumerate(description["input"]):
-        place = table["path"] if table["kind"] == "file" else table["listen"]
-        if place not in sources:
+    for number, table, events, failing in inputs_of(text):
+        if events is None:
             lines.append(f"input {number} closed")
             continue
         of = input_of(number, table)
-        answered, left, failed = answers(of, table.get("stop-after", 0), sources[place], failing.get(place, ()))
+        answered, left, failed = answers(of, table.get("stop-after", 0), events, failing)
         counts = " ".join(f"{name} {of.counts[name]}" for name in COUNTS)
         lines += [*map(line_of, answered), "end", "end"]
         lines += [f"input {number} {counts} fault {'source' if failed else 'nothing'}", f"left {left}"]

@@ -47,14 +47,12 @@ class Sized(Read):
 
 def listing(text):
     """The lines of what the inputs of a script hand on."""
-    description, sources, failing = arrivals.script_of(text)
     lines = []
-    for number, table in enumerate(description["input"]):
-        place = table["path"] if table["kind"] == "file" else table["listen"]
-        if place not in sources:
+    for number, table, events, failing in arrivals.inputs_of(text):
+        if events is None:
             lines.append(f"input {number} closed")
             continue
-        read = Sized(number, table, sources[place], failing.get(place, ()))
+        read = Sized(number, table, events, failing)
         lines += [line for answer in read.answers for line in answer_lines(table["kind"], answer)]
         lines += ["end", f"input {number} {'failed' if read.failed else 'end'}"]
         lines += [f"{name} {read.counts[name]}" for name in COUNTS]

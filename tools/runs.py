@@ -14,7 +14,7 @@ import tomllib
 sys.dont_write_bytecode = True
 
 from act_cases import changed, is_kept
-from arrivals import octets_of
+from arrivals import octets_of, place_of
 from items import COUNTS, read_input
 from json_lines import BUILTIN, element_of, line_of
 from value_texts import text_of
@@ -177,7 +177,7 @@ class Run:
         self.inputs = []
         opened = set()
         for number, table in enumerate(description["input"]):
-            place = table["path"] if table["kind"] == "file" else table["listen"]
+            place = place_of(table)
             if place not in script.sources or place in opened:
                 raise Refused(3, f"source fault: {table['name']}")
             opened.add(place)
