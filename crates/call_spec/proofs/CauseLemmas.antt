@@ -11,19 +11,21 @@ use Rattle.site_io.specs.declared.outside.OutsideFault.{OutsideFault}
 use Rattle.site_io.specs.declared.outside.OutsideFault.TheVariants as fault
 use Rattle.call_spec.specs.declared.end.InputEnd.{InputEnd}
 use Rattle.call_spec.specs.declared.end.InputEnd.TheVariants as end
+use Rattle.call_spec.specs.declared.end.OutputFault.{OutputFault}
+use Rattle.call_spec.specs.declared.end.OutputFault.TheVariants as output
 use Rattle.call_spec.specs.Pairs.{Each}
 use Rattle.call_spec.specs.Names.{times, has, marked}
 use Rattle.call_spec.specs.Counts.{TextKept, PlaceKept, SinkKept}
 use Rattle.call_spec.specs.Came.{Party, Parties, Refusal, InputCame, RunCame, Came}
-use Rattle.call_spec.specs.Came.Refusal.{NoText, BadDescription, BadElements, NotBuilt, NoSource, NoLog, NoOutput, NoMemory}
+use Rattle.call_spec.specs.Came.Refusal.{NoText, BadDescription, BadElements, NoSource, NoLog, NoOutput, NoMemory}
 use Rattle.call_spec.specs.Came.Came.{BadWords, Fine, Refused, Ran}
 use Rattle.call_spec.specs.Plan.{Plan, parties_of}
 use Rattle.call_spec.specs.Plan.Plan.{Nothing, OneFile, Described}
 use Rattle.call_spec.specs.Leaves.{Gave, arrivals_in, at_of, beside, log_and, sink_names, tried_places, failed_places, tried_sinks, failed_sinks}
-use Rattle.call_spec.specs.Ends.{has_failed}
+use Rattle.call_spec.specs.Ends.{has_failed, output_failed}
 use Rattle.call_spec.specs.Log.{HoldsLog}
 use Rattle.call_spec.specs.Lines.{Said, lines_of}
-use Rattle.call_spec.specs.Status.{end_code, fault_code, stage_code, said_code, wanted_code, worst, run_code}
+use Rattle.call_spec.specs.Status.{end_code, fault_code, output_code, stage_code, said_code, wanted_code, worst, run_code}
 use Rattle.call_spec.specs.Call.{CallsAs, Collects, IsOfCollect}
 use Rattle.call_spec.proofs.NameLemmas.{itself}
 
@@ -45,14 +47,15 @@ run_3 k (Err fault.Failed) e = absurd (omega (arith, e))
 run_3 k (Err fault.NoMemory) e = absurd (omega (arith, e))
 
 -- outputs, the log and intermediates give no 3
-outputs_3 : (m : ℕ) (faults : List (Option OutsideFault)) → fold max m (map fault_code faults) ≡ 3 → m ≡ 3
+outputs_3 : (m : ℕ) (faults : List (Option OutputFault)) → fold max m (map output_code faults) ≡ 3 → m ≡ 3
 outputs_3 m [] e = e
-outputs_3 m (f ∷ faults) e = by_fault f (outputs_3 (max m (fault_code f)) faults e)
+outputs_3 m (f ∷ faults) e = by_fault f (outputs_3 (max m (output_code f)) faults e)
   where
-    by_fault : (f : Option OutsideFault) → max m (fault_code f) ≡ 3 → m ≡ 3
+    by_fault : (f : Option OutputFault) → max m (output_code f) ≡ 3 → m ≡ 3
     by_fault None h = omega (arith, h)
-    by_fault (Some fault.Failed) h = absurd (omega (arith, h))
-    by_fault (Some fault.NoMemory) h = absurd (omega (arith, h))
+    by_fault (Some output.Failed) h = absurd (omega (arith, h))
+    by_fault (Some output.Limit) h = absurd (omega (arith, h))
+    by_fault (Some output.NoMemory) h = absurd (omega (arith, h))
 
 stages_3 : (m : ℕ) (stages : List Bool) → fold max m (map stage_code stages) ≡ 3 → m ≡ 3
 stages_3 m [] e = e
@@ -117,7 +120,6 @@ module _ {S : Type 0} (left : S → Option (List Scripted)) (faults : S → ℕ)
     by_refusal plan (NoText name) n m said c = inl (name, (subst (λ x. TextKept x (old.text name) (new.text name)) (here name []) (c.comes.texts name)).faults.1)
     by_refusal plan (BadDescription f) n m said c = absurd (let e = code_3 2 said c.answers in omega (arith, e))
     by_refusal plan (BadElements name f) n m said c = absurd (let e = code_3 2 said c.answers in omega (arith, e))
-    by_refusal plan NotBuilt n m said c = absurd (let e = code_3 2 said c.answers in omega (arith, e))
     by_refusal plan (NoSource i) n m said c =
         let tried = c.comes.leaves.0 in
         let long = length-map (parties_of plan).inputs (λ (p : Party). p.at) in
@@ -134,7 +136,7 @@ module _ {S : Type 0} (left : S → Option (List Scripted)) (faults : S → ℕ)
         let parties = parties_of (Described conf rows) in
         let inputs = worst (map (λ (x : InputCame). end_code x.end) run.inputs) in
         let stages = worst (map stage_code run.stages) in
-        let outputs = worst (map fault_code run.outputs) in
+        let outputs = worst (map output_code run.outputs) in
         elim (one_3 inputs (max (fault_code run.log) (max stages outputs)) (run_3 (run_code run) said c.answers)) [
           | inl h ↦ elim (inputs_3 conf rows old new 0 0 parties.inputs run.inputs c.comes.leaves.gave h) [
             | inl z ↦ absurd (omega (arith, z))
@@ -200,35 +202,36 @@ stages_4 m (b ∷ stages) e = by_stage b (stages_4 (max m (stage_code b)) stages
     by_stage false h = omega (arith, h)
 
 -- an output of which the sink failed
-outputs_4 : (P : ℕ → Party → Option OutsideFault → Type 0) (n m : ℕ) (parties : List Party) (faults : List (Option OutsideFault)) → Each P n parties faults → fold max m (map fault_code faults) ≡ 4
-    → (m ≡ 4) ⊎ ((p : List ℕ) × (has p (marked (at_of parties) (map has_failed faults)) ≡ true))
+outputs_4 : (P : ℕ → Party → Option OutputFault → Type 0) (n m : ℕ) (parties : List Party) (faults : List (Option OutputFault)) → Each P n parties faults → fold max m (map output_code faults) ≡ 4
+    → (m ≡ 4) ⊎ ((p : List ℕ) × (has p (marked (at_of parties) (map output_failed faults)) ≡ true))
 outputs_4 P n m [] [] g e = inl e
 outputs_4 P n m [] (f ∷ faults) g e = absurd g
 outputs_4 P n m (party ∷ parties) [] g e = absurd g
-outputs_4 P n m (party ∷ parties) (f ∷ faults) g e = elim (outputs_4 P (suc n) (max m (fault_code f)) parties faults g.1 e) [
+outputs_4 P n m (party ∷ parties) (f ∷ faults) g e = elim (outputs_4 P (suc n) (max m (output_code f)) parties faults g.1 e) [
   | inl h ↦ by_fault f h
-  | inr found ↦ inr (found.0, behind (has_failed f) found.0 party.at (marked (at_of parties) (map has_failed faults)) found.1)
+  | inr found ↦ inr (found.0, behind (output_failed f) found.0 party.at (marked (at_of parties) (map output_failed faults)) found.1)
 ]
   where
     rest : List (List ℕ)
-    rest = marked (at_of parties) (map has_failed faults)
+    rest = marked (at_of parties) (map output_failed faults)
 
-    by_fault : (x : Option OutsideFault) → max m (fault_code x) ≡ 4 → (m ≡ 4) ⊎ ((p : List ℕ) × (has p (cond (has_failed x) (party.at ∷ rest) rest) ≡ true))
+    by_fault : (x : Option OutputFault) → max m (output_code x) ≡ 4 → (m ≡ 4) ⊎ ((p : List ℕ) × (has p (cond (output_failed x) (party.at ∷ rest) rest) ≡ true))
     by_fault None h = inl (omega (arith, h))
-    by_fault (Some fault.Failed) h = inr (party.at, here party.at rest)
-    by_fault (Some fault.NoMemory) h = absurd (omega (arith, h))
+    by_fault (Some output.Failed) h = inr (party.at, here party.at rest)
+    by_fault (Some output.Limit) h = absurd (omega (arith, h))
+    by_fault (Some output.NoMemory) h = absurd (omega (arith, h))
 
 -- the log's name stands before them
-beside_outputs : (log : Option (List ℕ)) (f : Option OutsideFault) (names : List (List ℕ)) (faults : List (Option OutsideFault)) (p : List ℕ) → has p (marked names (map has_failed faults)) ≡ true → has p (marked (log_and log names) (map has_failed (beside log f faults))) ≡ true
-beside_outputs None f names faults p e = e
-beside_outputs (Some path) f names faults p e = behind (has_failed f) p path (marked names (map has_failed faults)) e
+beside_outputs : (log : Option (List ℕ)) (b : Bool) (names : List (List ℕ)) (marks : List Bool) (p : List ℕ) → has p (marked names marks) ≡ true → has p (marked (log_and log names) (beside log b marks)) ≡ true
+beside_outputs None b names marks p e = e
+beside_outputs (Some path) b names marks p e = behind b p path (marked names marks) e
 
-log_4 : {X : Type 0} (log : Option (List ℕ)) (f : Option OutsideFault) (lists : List (List X)) (order : List ℕ) (old new : List ℕ → SinkSeen) (names : List (List ℕ)) (faults : List (Option OutsideFault))
-    → MatchOption log (f ≡ None) (λ path. HoldsLog f lists (old path).held (new path).held order) → fault_code f ≡ 4 → (p : List ℕ) × (has p (marked (log_and log names) (map has_failed (beside log f faults))) ≡ true)
-log_4 None f lists order old new names faults h e = absurd (let z : fault_code f ≡ 0 = ap fault_code h in omega (arith, z, e))
-log_4 (Some path) None lists order old new names faults h e = absurd (omega (arith, e))
-log_4 (Some path) (Some fault.Failed) lists order old new names faults h e = (path, here path (marked names (map has_failed faults)))
-log_4 (Some path) (Some fault.NoMemory) lists order old new names faults h e = absurd (omega (arith, e))
+log_4 : {X : Type 0} (log : Option (List ℕ)) (f : Option OutsideFault) (lists : List (List X)) (order : List ℕ) (old new : List ℕ → SinkSeen) (names : List (List ℕ)) (marks : List Bool)
+    → MatchOption log (f ≡ None) (λ path. HoldsLog f lists (old path).held (new path).held order) → fault_code f ≡ 4 → (p : List ℕ) × (has p (marked (log_and log names) (beside log (has_failed f) marks)) ≡ true)
+log_4 None f lists order old new names marks h e = absurd (let z : fault_code f ≡ 0 = ap fault_code h in omega (arith, z, e))
+log_4 (Some path) None lists order old new names marks h e = absurd (omega (arith, e))
+log_4 (Some path) (Some fault.Failed) lists order old new names marks h e = (path, here path (marked names marks))
+log_4 (Some path) (Some fault.NoMemory) lists order old new names marks h e = absurd (omega (arith, e))
 
 first_name : (log : Option (List ℕ)) (names : List (List ℕ)) → IsSome log → (x : List ℕ) × (take 1 (log_and log names) ≡ x ∷ [])
 first_name None names s = absurd (cc)
@@ -242,7 +245,6 @@ module _ {S : Type 0} (left : S → Option (List Scripted)) (faults : S → ℕ)
   refusal_4 plan (NoText name) n m said c = absurd (let e = code_4 3 said c.answers in omega (arith, e))
   refusal_4 plan (BadDescription f) n m said c = absurd (let e = code_4 2 said c.answers in omega (arith, e))
   refusal_4 plan (BadElements name f) n m said c = absurd (let e = code_4 2 said c.answers in omega (arith, e))
-  refusal_4 plan NotBuilt n m said c = absurd (let e = code_4 2 said c.answers in omega (arith, e))
   refusal_4 plan (NoSource i) n m said c = absurd (let e = code_4 3 said c.answers in omega (arith, e))
   refusal_4 plan NoLog n m said c =
       let f = first_name (parties_of plan).log (at_of (parties_of plan).outputs) c.comes.leaves.0.2 in
@@ -270,16 +272,16 @@ module _ {S : Type 0} (left : S → Option (List Scripted)) (faults : S → ℕ)
       by_run h =
           let inputs = worst (map (λ (x : InputCame). end_code x.end) run.inputs) in
           let stages = worst (map stage_code run.stages) in
-          let outputs = worst (map fault_code run.outputs) in
+          let outputs = worst (map output_code run.outputs) in
           elim (one_4 inputs (max (fault_code run.log) (max stages outputs)) h) [
             | inl x ↦ absurd (let z = ends_4 0 run.inputs x in omega (arith, z))
             | inr k ↦ elim (one_4 (fault_code run.log) (max stages outputs) k) [
-              | inl l ↦ found (log_4 conf.order_log run.log (arrivals_in conf run) run.order old.sink new.sink (at_of parties.outputs) run.outputs c.comes.leaves.logged l)
+              | inl l ↦ found (log_4 conf.order_log run.log (arrivals_in conf run) run.order old.sink new.sink (at_of parties.outputs) (map output_failed run.outputs) c.comes.leaves.logged l)
               | inr j ↦ elim (one_4 stages outputs j) [
                 | inl x ↦ absurd (let z = stages_4 0 run.stages x in omega (arith, z))
                 | inr x ↦ elim (outputs_4 _ 0 0 parties.outputs run.outputs c.comes.leaves.holds x) [
                   | inl z ↦ absurd (omega (arith, z))
-                  | inr f ↦ found (f.0, beside_outputs conf.order_log run.log (at_of parties.outputs) run.outputs f.0 f.1)
+                  | inr f ↦ found (f.0, beside_outputs conf.order_log (has_failed run.log) (at_of parties.outputs) (map output_failed run.outputs) f.0 f.1)
                 ]
               ]
             ]

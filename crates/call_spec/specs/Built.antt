@@ -1,17 +1,10 @@
--- What is built: of the events of one file those of one stream, as far as they came, and of descriptions those with one
--- output of text. And what an input of a file is in text.
-use Rattle.std.specs.Prelude.{ℕ, ◌≡◌, ◌⊎◌, ◌&&◌, Bool, true, false, List, [], ◌∷◌}
+-- What is built: of the events of one file those of one stream, as far as they came. And what an input of a file is in text.
+use Rattle.std.specs.Prelude.{ℕ, ◌≡◌, ◌⊎◌, true, List, [], ◌∷◌}
 use Rattle.col_base.specs.declared.base.Transport.TheVariants.{File}
 use Rattle.arrival_spec.specs.declared.event.Scripted.{Scripted}
 use Rattle.arrival_spec.specs.Events.{events_of}
 use Rattle.arrival_spec.specs.OneStream.{IsOneStream}
 use Rattle.arrival_spec.specs.Settings.{Settings}
-use Rattle.config_spec.specs.declared.conf.Conf.{Conf}
-use Rattle.config_spec.specs.declared.conf.OutputConf.{OutputConf}
-use Rattle.config_spec.specs.declared.conf.OutputKind.{OutputKind}
-use Rattle.config_spec.specs.declared.conf.OutputKind.TheVariants.{Json, Ipfix, View}
-use Rattle.config_spec.specs.declared.domains.DomainSet.{DomainSet}
-use Rattle.config_spec.specs.declared.domains.DomainSet.TheVariants.{All, Only, Except}
 use Rattle.text_spec.specs.Builtin.{builtin_rows}
 use Rattle.run_spec.specs.Result.{IsText}
 use Rattle.call_spec.specs.Came.{InputCame}
@@ -37,22 +30,3 @@ abbrev pub FileText : List InputCame → List ℕ → Type 0
 FileText [] text = ⊥
 FileText (c ∷ []) text = IsFileText c.given text
 FileText (c ∷ (d ∷ more)) text = ⊥
-
--- a description is built where it has one output alone, which is text and has all domains
-abbrev pub is_text : OutputKind → Bool
-is_text (Json options) = true
-is_text (Ipfix last) = false
-is_text View = true
-
-abbrev pub has_all : DomainSet → Bool
-has_all All = true
-has_all (Only ranges) = false
-has_all (Except ranges) = false
-
-abbrev pub are_built : List OutputConf → Bool
-are_built [] = false
-are_built (o ∷ []) = is_text o.kind && has_all o.domains
-are_built (o ∷ (p ∷ more)) = false
-
-abbrev pub is_built : Conf → Bool
-is_built conf = are_built conf.outputs

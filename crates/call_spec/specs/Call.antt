@@ -1,14 +1,13 @@
 -- What a call promises.
-use Rattle.std.specs.Prelude.{ℕ, ◌≡◌, ◌⊎◌, ⊤, Bool, true, false, List, Option, Result, Ok, Err}
+use Rattle.std.specs.Prelude.{ℕ, ◌≡◌, ◌⊎◌, ⊤, List, Option, Result, Ok, Err}
 use Rattle.arrival_spec.specs.declared.event.Scripted.{Scripted}
 use Rattle.site_io.specs.declared.outside.OutsideFault.{OutsideFault}
 use Rattle.site_io.specs.Seen.{Seen, TextSeen}
 use Rattle.words_spec.specs.Commands.{Command}
 use Rattle.words_spec.specs.Commands.Command.{Direct, Check, Collect, Generate}
 use Rattle.words_spec.specs.Commands.Command.{Refused as NoCommand}
-use Rattle.call_spec.specs.Built.{is_built}
 use Rattle.call_spec.specs.Came.{Refusal, Came}
-use Rattle.call_spec.specs.Came.Refusal.{NoText, BadDescription, BadElements, NotBuilt, NoSource, NoLog, NoOutput, NoMemory}
+use Rattle.call_spec.specs.Came.Refusal.{NoText, BadDescription, BadElements, NoSource, NoLog, NoOutput, NoMemory}
 use Rattle.call_spec.specs.Came.Came.{BadWords, Fine, Refused, Ran}
 use Rattle.call_spec.specs.Plan.{Plan}
 use Rattle.call_spec.specs.Plan.Plan.{Nothing, OneFile, Described}
@@ -24,7 +23,6 @@ IsOfDirect Fine = ⊥
 IsOfDirect (Refused (NoText name) n m) = ⊥
 IsOfDirect (Refused (BadDescription fault) n m) = ⊥
 IsOfDirect (Refused (BadElements name fault) n m) = ⊥
-IsOfDirect (Refused NotBuilt n m) = ⊥
 IsOfDirect (Refused (NoSource i) n m) = ⊤
 IsOfDirect (Refused NoLog n m) = ⊤
 IsOfDirect (Refused (NoOutput j) n m) = ⊤
@@ -38,29 +36,28 @@ IsOfCheck text file Fine = Judges text file (Ok tt)
 IsOfCheck text file (Refused refusal n m) = Judges text file (Err refusal)
 IsOfCheck text file (Ran run) = ⊥
 
--- what FILE says is run: its description, which is built or isn't, with the elements of the files that it names
-abbrev pub IsPlanOf : (List ℕ → TextSeen) → List ℕ → Bool → Plan → Type 0
-IsPlanOf text file built Nothing = ⊥
-IsPlanOf text file built (OneFile place out) = ⊥
-IsPlanOf text file built (Described conf rows) = Describes text file conf × HasTable text conf.elements rows × (is_built conf ≡ built)
+-- what FILE says is run: its description, with the elements of the files that it names
+abbrev pub IsPlanOf : (List ℕ → TextSeen) → List ℕ → Plan → Type 0
+IsPlanOf text file Nothing = ⊥
+IsPlanOf text file (OneFile place out) = ⊥
+IsPlanOf text file (Described conf rows) = Describes text file conf × HasTable text conf.elements rows
 
 -- a text's refusal comes before anything is planned
 abbrev pub IsOfTexts : (List ℕ → TextSeen) → List ℕ → Plan → Refusal → Type 0
 IsOfTexts text file plan refusal = (plan ≡ Nothing) × Judges text file (Err refusal)
 
--- what may come of `collect`: its texts' first fault, a description that isn't built, and else what comes of running it
+-- what may come of `collect`: its texts' first fault, and else what comes of running its description
 abbrev pub IsOfCollect : (List ℕ → TextSeen) → List ℕ → Plan → Came → Type 0
 IsOfCollect text file plan BadWords = ⊥
 IsOfCollect text file plan Fine = ⊥
 IsOfCollect text file plan (Refused (NoText name) n m) = IsOfTexts text file plan (NoText name)
 IsOfCollect text file plan (Refused (BadDescription fault) n m) = IsOfTexts text file plan (BadDescription fault)
 IsOfCollect text file plan (Refused (BadElements name fault) n m) = IsOfTexts text file plan (BadElements name fault)
-IsOfCollect text file plan (Refused NotBuilt n m) = IsPlanOf text file false plan
-IsOfCollect text file plan (Refused (NoSource i) n m) = IsPlanOf text file true plan
-IsOfCollect text file plan (Refused NoLog n m) = IsPlanOf text file true plan
-IsOfCollect text file plan (Refused (NoOutput j) n m) = IsPlanOf text file true plan
-IsOfCollect text file plan (Refused NoMemory n m) = (plan ≡ Nothing) ⊎ IsPlanOf text file true plan
-IsOfCollect text file plan (Ran run) = IsPlanOf text file true plan
+IsOfCollect text file plan (Refused (NoSource i) n m) = IsPlanOf text file plan
+IsOfCollect text file plan (Refused NoLog n m) = IsPlanOf text file plan
+IsOfCollect text file plan (Refused (NoOutput j) n m) = IsPlanOf text file plan
+IsOfCollect text file plan (Refused NoMemory n m) = (plan ≡ Nothing) ⊎ IsPlanOf text file plan
+IsOfCollect text file plan (Ran run) = IsPlanOf text file plan
 
 -- what may come of a command, and what it runs: words of none are refused, and so are those of `generate`, which isn't built
 -- yet

@@ -6,6 +6,7 @@ use Rattle.count_spec.specs.Counts.{Counts}
 use Rattle.element_spec.specs.declared.fault.TableFault.{TableFault}
 use Rattle.site_io.specs.declared.outside.OutsideFault.{OutsideFault}
 use Rattle.call_spec.specs.declared.end.InputEnd.{InputEnd}
+use Rattle.call_spec.specs.declared.end.OutputFault.{OutputFault}
 
 -- an input or an output: its name in lines, and its place or its sink's name
 pub record Party : Type 0 where
@@ -21,13 +22,12 @@ pub record Parties : Type 0 where
   pub outputs : List Party
 
 -- why a call is refused before its run: the text of this name failed; the description, or the element table of this name,
--- has this fault; the description isn't built yet; the source of this input, the log's sink or the sink of this output
--- could not be opened; memory was wanted
+-- has this fault; the source of this input, the log's sink or the sink of this output could not be opened; memory was
+-- wanted
 pub data Refusal : Type 0 where
   NoText : List ℕ → Refusal
   BadDescription : ConfFault → Refusal
   BadElements : List ℕ → TableFault → Refusal
-  NotBuilt : Refusal
   NoSource : ℕ → Refusal
   NoLog : Refusal
   NoOutput : ℕ → Refusal
@@ -51,7 +51,7 @@ pub record RunCame : Type 0 where
   pub order : List ℕ
   pub log : Option OutsideFault
   pub stages : List Bool
-  pub outputs : List (Option OutsideFault)
+  pub outputs : List (Option OutputFault)
   pub counts : Counts
 
 pub data Came : Type 0 where

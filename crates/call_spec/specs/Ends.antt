@@ -7,6 +7,8 @@ use Rattle.site_io.specs.declared.outside.OutsideFault.{OutsideFault}
 use Rattle.site_io.specs.declared.outside.OutsideFault.TheVariants as fault
 use Rattle.call_spec.specs.declared.end.InputEnd.{InputEnd}
 use Rattle.call_spec.specs.declared.end.InputEnd.TheVariants as end
+use Rattle.call_spec.specs.declared.end.OutputFault.{OutputFault}
+use Rattle.call_spec.specs.declared.end.OutputFault.TheVariants as output
 use Rattle.call_spec.specs.Built.{IsBuilt}
 
 -- these events came off the front of what was left, where that is told
@@ -68,11 +70,17 @@ wants_memory end.Limit = false
 wants_memory end.Memory = true
 wants_memory end.NotBuilt = false
 
--- what failed, of all that may end an output
+-- whether the log's sink failed, of all that may end it; and an output's
 abbrev pub has_failed : Option OutsideFault → Bool
 has_failed None = false
 has_failed (Some fault.Failed) = true
 has_failed (Some fault.NoMemory) = false
+
+abbrev pub output_failed : Option OutputFault → Bool
+output_failed None = false
+output_failed (Some output.Failed) = true
+output_failed (Some output.Limit) = false
+output_failed (Some output.NoMemory) = false
 
 -- a front of the text was taken, where what is held is told
 abbrev pub GrowsByFront : Option (List ℕ) → Option (List ℕ) → List ℕ → Type 0
@@ -92,3 +100,19 @@ Holds (Some old) now text = now ≡ Some text
 abbrev pub HoldsAs : Bool → Option (List ℕ) → Option (List ℕ) → List ℕ → Type 0
 HoldsAs false old now text = Holds old now text
 HoldsAs true old now text = (n : ℕ) × Holds old now (take n text)
+
+-- What a sink shows of an output that ended so, and that was cut off or not by what stands before it: its whole text; or, at
+-- its limit, that of what it can hold; or else a front.
+abbrev pub HoldsBy : Bool → Option OutputFault → Option (List ℕ) → Option (List ℕ) → List ℕ → List ℕ → Type 0
+HoldsBy cut None old now text within = HoldsAs cut old now text
+HoldsBy cut (Some output.Failed) old now text within = HoldsAs true old now text
+HoldsBy cut (Some output.Limit) old now text within = Holds old now within
+HoldsBy cut (Some output.NoMemory) old now text within = HoldsAs true old now text
+
+-- It ends at its limit only where what comes to it exceeds that, and always then, unless it was cut off before.
+abbrev pub EndsOutput : Bool → Option OutputFault → Type 0 → Type 0
+EndsOutput false None Exceeding = Exceeding → ⊥
+EndsOutput true None Exceeding = ⊤
+EndsOutput cut (Some output.Failed) Exceeding = ⊤
+EndsOutput cut (Some output.Limit) Exceeding = Exceeding
+EndsOutput cut (Some output.NoMemory) Exceeding = ⊤

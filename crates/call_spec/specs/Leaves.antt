@@ -1,6 +1,6 @@
 -- What came of a call, and what it says of the Site before and after: what was tried and what failed by name, and what
 -- places, sinks and texts hold.
-use Rattle.std.specs.Prelude.{ℕ, ◌≡◌, ◌⊎◌, ◌+◌, ◌-◌, ◌<◌, ◌≤◌, ◌||◌, ⊤, Bool, true, false, List, [], ◌∷◌, ◌++◌, Option, Some, None, MatchOption, IsSome, is_some, map, take, drop, length}
+use Rattle.std.specs.Prelude.{ℕ, ◌≡◌, ◌⊎◌, ◌+◌, ◌-◌, ◌<◌, ◌≤◌, ◌||◌, ⊤, Bool, true, false, List, [], ◌∷◌, ◌++◌, Option, Some, None, MatchOption, IsSome, is_some, map, take, drop, length, slice_get}
 use Rattle.std.specs.List.{list_any}
 use Rattle.arrival_spec.specs.declared.event.Scripted.{Scripted}
 use Rattle.arrival_spec.specs.Arrival.{Arrival}
@@ -9,15 +9,18 @@ use Rattle.site_io.specs.declared.outside.OutsideFault.{OutsideFault}
 use Rattle.site_io.specs.Seen.{Seen, PlaceSeen, SinkSeen}
 use Rattle.run_spec.specs.Merge.{IsPartial, list_at, times as times_in}
 use Rattle.count_spec.specs.Run.{ArePrinted}
-use Rattle.result_spec.specs.Result.{inputs_of, arrivals_from, IsRunResult}
+use Rattle.result_spec.specs.Result.{inputs_of, arrivals_from, ComeTo, ExceedsFor, held_for, text_for}
+use Rattle.run_spec.specs.Work.{Item}
+use Rattle.text_spec.specs.declared.element.Element.{Element}
 use Rattle.call_spec.specs.Pairs.{Each}
 use Rattle.call_spec.specs.Names.{times, has, marked}
 use Rattle.call_spec.specs.Counts.{TextKept, PlaceKept, SinkKept}
 use Rattle.call_spec.specs.Built.{FileText, IsBuilt}
-use Rattle.call_spec.specs.Ends.{TakenFrom, EndsReading, EndsInput, HoldsAs, source_failed, wants_memory, has_failed}
+use Rattle.call_spec.specs.Ends.{TakenFrom, EndsReading, EndsInput, EndsOutput, HoldsBy, source_failed, wants_memory, has_failed, output_failed}
+use Rattle.call_spec.specs.declared.end.OutputFault.{OutputFault}
 use Rattle.call_spec.specs.Log.{HoldsLog}
 use Rattle.call_spec.specs.Came.{Party, Parties, Refusal, InputCame, RunCame, Came, taken_of}
-use Rattle.call_spec.specs.Came.Refusal.{NoText, BadDescription, BadElements, NotBuilt, NoSource, NoLog, NoOutput, NoMemory}
+use Rattle.call_spec.specs.Came.Refusal.{NoText, BadDescription, BadElements, NoSource, NoLog, NoOutput, NoMemory}
 use Rattle.call_spec.specs.Came.Came.{BadWords, Fine, Refused, Ran}
 use Rattle.call_spec.specs.Plan.{Plan, parties_of}
 use Rattle.call_spec.specs.Plan.Plan.{Nothing, OneFile, Described}
@@ -44,7 +47,6 @@ abbrev pub failed_text : Refusal → List (List ℕ)
 failed_text (NoText name) = name ∷ []
 failed_text (BadDescription fault) = []
 failed_text (BadElements name fault) = []
-failed_text NotBuilt = []
 failed_text (NoSource i) = []
 failed_text NoLog = []
 failed_text (NoOutput j) = []
@@ -60,7 +62,6 @@ abbrev pub refused_place : Parties → Refusal → List (List ℕ)
 refused_place parties (NoText name) = []
 refused_place parties (BadDescription fault) = []
 refused_place parties (BadElements name fault) = []
-refused_place parties NotBuilt = []
 refused_place parties (NoSource i) = take 1 (drop i (at_of parties.inputs))
 refused_place parties NoLog = []
 refused_place parties (NoOutput j) = []
@@ -70,7 +71,6 @@ abbrev pub refused_sink : Parties → Refusal → List (List ℕ)
 refused_sink parties (NoText name) = []
 refused_sink parties (BadDescription fault) = []
 refused_sink parties (BadElements name fault) = []
-refused_sink parties NotBuilt = []
 refused_sink parties (NoSource i) = []
 refused_sink parties NoLog = take 1 (sink_names parties)
 refused_sink parties (NoOutput j) = take 1 (drop j (at_of parties.outputs))
@@ -98,7 +98,7 @@ abbrev pub failed_sinks : Parties → Came → List (List ℕ)
 failed_sinks parties BadWords = []
 failed_sinks parties Fine = []
 failed_sinks parties (Refused refusal n m) = refused_sink parties refusal
-failed_sinks parties (Ran run) = marked (sink_names parties) (map has_failed (beside parties.log run.log run.outputs))
+failed_sinks parties (Ran run) = marked (sink_names parties) (beside parties.log (has_failed run.log) (map output_failed run.outputs))
 
 -- So many places and sinks were tried at a refusal: none before all texts are read, and no sink before all sources are
 -- out. The one that was refused is the last that was tried.
@@ -106,7 +106,6 @@ abbrev pub IsRefusal : Parties → Refusal → ℕ → ℕ → Type 0
 IsRefusal parties (NoText name) n m = (n ≡ 0) × (m ≡ 0)
 IsRefusal parties (BadDescription fault) n m = (n ≡ 0) × (m ≡ 0)
 IsRefusal parties (BadElements name fault) n m = (n ≡ 0) × (m ≡ 0)
-IsRefusal parties NotBuilt n m = (n ≡ 0) × (m ≡ 0)
 IsRefusal parties (NoSource i) n m = (n ≡ i + 1) × (i < length parties.inputs) × (m ≡ 0)
 IsRefusal parties NoLog n m = (n ≡ length parties.inputs) × (m ≡ 1) × IsSome parties.log
 IsRefusal parties (NoOutput j) n m = (n ≡ length parties.inputs) × (j < length parties.outputs) × (m ≡ length (log_and parties.log (take (j + 1) (at_of parties.outputs))))
@@ -117,7 +116,6 @@ abbrev pub emptied_sinks : Parties → Refusal → ℕ → List (List ℕ)
 emptied_sinks parties (NoText name) m = []
 emptied_sinks parties (BadDescription fault) m = []
 emptied_sinks parties (BadElements name fault) m = []
-emptied_sinks parties NotBuilt m = []
 emptied_sinks parties (NoSource i) m = []
 emptied_sinks parties NoLog m = []
 emptied_sinks parties (NoOutput j) m = take (m - 1) (sink_names parties)
@@ -167,18 +165,31 @@ IsOrdered Nothing run = ⊥
 IsOrdered (OneFile place out) run = ⊤
 IsOrdered (Described conf rows) run = IsOrder run (arrivals_in conf run)
 
--- the text of an output: of one file that of what it gave, and of a description that of the arrivals in their order
-abbrev pub OutputText : Plan → RunCame → ℕ → List ℕ → Type 0
-OutputText Nothing run j text = ⊥
-OutputText (OneFile place out) run j text = FileText run.inputs text
-OutputText (Described conf rows) run j text = IsRunResult conf rows (given_of run) run.order j text
+-- the lines of one file are cut off where its input wanted memory; the outputs of a description where an intermediate did
+abbrev pub input_wants : RunCame → Bool
+input_wants run = list_any (λ (c : InputCame). wants_memory c.end) run.inputs
 
--- an output's text is cut off where the output ended or an intermediate wanted memory, and that of one file also where its
--- input did
-abbrev pub is_cut : Plan → RunCame → Option OutsideFault → Bool
-is_cut Nothing run f = is_some f
-is_cut (OneFile place out) run f = is_some f || list_any (λ (c : InputCame). wants_memory c.end) run.inputs
-is_cut (Described conf rows) run f = is_some f || list_any (λ b. b) run.stages
+abbrev pub stage_wants : RunCame → Bool
+stage_wants run = list_any (λ b. b) run.stages
+
+-- what the output of one file holds: the lines of what it gave
+pub record HoldsFile (run : RunCame) (f : Option OutputFault) (old now : Option (List ℕ)) : Type 0 where
+  pub text : List ℕ
+  pub is : FileText run.inputs text
+  pub ends : EndsOutput (input_wants run) f ⊥
+  pub holds : HoldsBy (input_wants run) f old now text []
+
+-- what output j of a description holds: its text of what comes to it of the arrivals in their order
+pub record HoldsResult (conf : Conf) (rows : List Element) (run : RunCame) (j : ℕ) (f : Option OutputFault) (old now : Option (List ℕ)) : Type 0 where
+  pub items : List Item
+  pub come : ComeTo conf (given_of run) run.order j items
+  pub ends : EndsOutput (stage_wants run) f (ExceedsFor (slice_get conf.outputs j) items)
+  pub holds : HoldsBy (stage_wants run) f old now (text_for rows (slice_get conf.outputs j) items) (text_for rows (slice_get conf.outputs j) (held_for (slice_get conf.outputs j) items))
+
+abbrev pub OutputHolds : Plan → RunCame → ℕ → Option OutputFault → Option (List ℕ) → Option (List ℕ) → Type 0
+OutputHolds Nothing run j f old now = ⊥
+OutputHolds (OneFile place out) run j f old now = HoldsFile run f old now
+OutputHolds (Described conf rows) run j f old now = HoldsResult conf rows run j f old now
 
 -- what the log shows
 abbrev pub LogHolds : Plan → RunCame → (List ℕ → SinkSeen) → (List ℕ → SinkSeen) → Type 0
@@ -190,7 +201,7 @@ LogHolds (Described conf rows) run old new = MatchOption conf.order_log (run.log
 abbrev pub IsCounted : Plan → RunCame → Type 0
 IsCounted Nothing run = ⊥
 IsCounted (OneFile place out) run = ⊤
-IsCounted (Described conf rows) run = list_any (λ (c : InputCame). wants_memory c.end) run.inputs ≡ false → ArePrinted (inputs_of conf) (given_of run) run.counts
+IsCounted (Described conf rows) run = input_wants run ≡ false → ArePrinted (inputs_of conf) (given_of run) run.counts
 
 module _ {S : Type 0} (left : S → Option (List Scripted)) (faults : S → ℕ) where
   -- a source that had not failed yet had given these events
@@ -210,7 +221,7 @@ module _ {S : Type 0} (left : S → Option (List Scripted)) (faults : S → ℕ)
     pub ordered : IsOrdered plan run
     pub logged : LogHolds plan run old.sink new.sink
     pub stages : length run.stages ≡ length (parties_of plan).stages
-    pub holds : Each (λ j (party : Party) f. (text : List ℕ) × OutputText plan run j text × HoldsAs (is_cut plan run f) (old.sink party.at).held (new.sink party.at).held text) 0 (parties_of plan).outputs run.outputs
+    pub holds : Each (λ j (party : Party) f. OutputHolds plan run j f (old.sink party.at).held (new.sink party.at).held) 0 (parties_of plan).outputs run.outputs
     pub counted : IsCounted plan run
 
   -- a call without a run took nothing and wrote nothing

@@ -8,8 +8,10 @@ use Rattle.site_io.specs.Seen.{SaidSeen}
 use Rattle.site_io.specs.Writes.{Grows}
 use Rattle.call_spec.specs.declared.end.InputEnd.{InputEnd}
 use Rattle.call_spec.specs.declared.end.InputEnd.TheVariants as end
+use Rattle.call_spec.specs.declared.end.OutputFault.{OutputFault}
+use Rattle.call_spec.specs.declared.end.OutputFault.TheVariants as output
 use Rattle.call_spec.specs.Came.{Party, Parties, Refusal, InputCame, RunCame, Came}
-use Rattle.call_spec.specs.Came.Refusal.{NoText, BadDescription, BadElements, NotBuilt, NoSource, NoLog, NoOutput, NoMemory}
+use Rattle.call_spec.specs.Came.Refusal.{NoText, BadDescription, BadElements, NoSource, NoLog, NoOutput, NoMemory}
 use Rattle.call_spec.specs.Came.Came.{BadWords, Fine, Refused, Ran}
 use Rattle.call_spec.specs.Counts.{MovesBy}
 use Rattle.call_spec.specs.Ends.{GrowsByFront}
@@ -71,11 +73,17 @@ input_line name end.Limit = named_line limit_start name
 input_line name end.Memory = named_line memory_start name
 input_line name end.NotBuilt = not_built_text
 
--- the line of an output or of the log, if it has one
+-- the line of the log, if it has one, and of an output
 abbrev pub sink_line : List ℕ → Option OutsideFault → List ℕ
 sink_line name None = []
 sink_line name (Some fault.Failed) = named_line sink_start name
 sink_line name (Some fault.NoMemory) = named_line memory_start name
+
+abbrev pub output_line : List ℕ → Option OutputFault → List ℕ
+output_line name None = []
+output_line name (Some output.Failed) = named_line sink_start name
+output_line name (Some output.Limit) = named_line limit_start name
+output_line name (Some output.NoMemory) = named_line memory_start name
 
 -- the lines of all of some names, each by what came to it
 abbrev pub lines_by : {B : Type 0} → (List ℕ → B → List ℕ) → List (List ℕ) → List B → List ℕ
@@ -99,10 +107,9 @@ abbrev pub refusal_line : Parties → Refusal → List ℕ
 refusal_line parties (NoText name) = named_line source_start name
 refusal_line parties (BadDescription fault) = named_line description_start (fault_text fault)
 refusal_line parties (BadElements name fault) = named_line (elements_head name) (elements.fault_text fault)
-refusal_line parties NotBuilt = not_built_text
 refusal_line parties (NoSource i) = flat_map (λ name. input_line name end.Failed) (take 1 (drop i (names_of parties.inputs)))
 refusal_line parties NoLog = sink_line log_name (Some fault.Failed)
-refusal_line parties (NoOutput j) = flat_map (λ name. sink_line name (Some fault.Failed)) (take 1 (drop j (names_of parties.outputs)))
+refusal_line parties (NoOutput j) = flat_map (λ name. output_line name (Some output.Failed)) (take 1 (drop j (names_of parties.outputs)))
 refusal_line parties NoMemory = memory_text
 
 abbrev pub ends_of : RunCame → List InputEnd
@@ -111,7 +118,7 @@ ends_of run = map (λ (c : InputCame). c.end) run.inputs
 -- the lines of a run's faults: those of the inputs, of the log, of the intermediates and of the outputs
 abbrev pub fault_lines : Parties → RunCame → List ℕ
 fault_lines parties run = lines_by input_line (names_of parties.inputs) (ends_of run)
-    ++ (log_line parties.log run.log ++ (lines_by stage_line parties.stages run.stages ++ lines_by sink_line (names_of parties.outputs) run.outputs))
+    ++ (log_line parties.log run.log ++ (lines_by stage_line parties.stages run.stages ++ lines_by output_line (names_of parties.outputs) run.outputs))
 
 -- the summary of a run
 abbrev pub summary_of : Plan → RunCame → List ℕ

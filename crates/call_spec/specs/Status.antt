@@ -4,8 +4,10 @@ use Rattle.site_io.specs.declared.outside.OutsideFault.{OutsideFault}
 use Rattle.site_io.specs.declared.outside.OutsideFault.TheVariants as fault
 use Rattle.call_spec.specs.declared.end.InputEnd.{InputEnd}
 use Rattle.call_spec.specs.declared.end.InputEnd.TheVariants as end
+use Rattle.call_spec.specs.declared.end.OutputFault.{OutputFault}
+use Rattle.call_spec.specs.declared.end.OutputFault.TheVariants as output
 use Rattle.call_spec.specs.Came.{Refusal, InputCame, RunCame, Came}
-use Rattle.call_spec.specs.Came.Refusal.{NoText, BadDescription, BadElements, NotBuilt, NoSource, NoLog, NoOutput, NoMemory}
+use Rattle.call_spec.specs.Came.Refusal.{NoText, BadDescription, BadElements, NoSource, NoLog, NoOutput, NoMemory}
 use Rattle.call_spec.specs.Came.Came.{BadWords, Fine, Refused, Ran}
 
 abbrev pub end_code : InputEnd → ℕ
@@ -19,6 +21,12 @@ abbrev pub fault_code : Option OutsideFault → ℕ
 fault_code None = 0
 fault_code (Some fault.Failed) = 4
 fault_code (Some fault.NoMemory) = 6
+
+abbrev pub output_code : Option OutputFault → ℕ
+output_code None = 0
+output_code (Some output.Failed) = 4
+output_code (Some output.Limit) = 5
+output_code (Some output.NoMemory) = 6
 
 abbrev pub said_code : Result (Unit {0}) OutsideFault → ℕ
 said_code (Ok done) = 0
@@ -35,7 +43,6 @@ abbrev pub refusal_code : Refusal → ℕ
 refusal_code (NoText name) = 3
 refusal_code (BadDescription fault) = 2
 refusal_code (BadElements name fault) = 2
-refusal_code NotBuilt = 2
 refusal_code (NoSource i) = 3
 refusal_code NoLog = 4
 refusal_code (NoOutput j) = 4
@@ -49,7 +56,7 @@ stage_code wants = cond wants 6 0
 
 -- of a run the greatest that came to an input, the log, an intermediate or an output
 abbrev pub run_code : RunCame → ℕ
-run_code run = max (worst (map (λ (c : InputCame). end_code c.end) run.inputs)) (max (fault_code run.log) (max (worst (map stage_code run.stages)) (worst (map fault_code run.outputs))))
+run_code run = max (worst (map (λ (c : InputCame). end_code c.end) run.inputs)) (max (fault_code run.log) (max (worst (map stage_code run.stages)) (worst (map output_code run.outputs))))
 
 abbrev pub status_of : Came → Result (Unit {0}) OutsideFault → ℕ
 status_of BadWords said = 1

@@ -8,7 +8,7 @@ use Rattle.element_spec.specs.Table.{element_table}
 use Rattle.site_io.specs.Seen.{TextSeen}
 use Rattle.call_spec.specs.Pairs.{Each}
 use Rattle.call_spec.specs.Came.{Refusal, Came}
-use Rattle.call_spec.specs.Came.Refusal.{NoText, BadDescription, BadElements, NotBuilt, NoSource, NoLog, NoOutput, NoMemory}
+use Rattle.call_spec.specs.Came.Refusal.{NoText, BadDescription, BadElements, NoSource, NoLog, NoOutput, NoMemory}
 use Rattle.call_spec.specs.Came.Came.{BadWords, Fine, Refused, Ran}
 
 -- the octets of a text, where they are told
@@ -54,7 +54,6 @@ Judges text file (Ok done) = (conf : Conf) × Describes text file conf × ((rows
 Judges text file (Err (NoText name)) = (name ≡ file) ⊎ ((conf : Conf) × Describes text file conf × Reaches text conf.elements name)
 Judges text file (Err (BadDescription fault)) = (octets : List ℕ) × IsText text file octets × (description octets ≡ Err fault)
 Judges text file (Err (BadElements name fault)) = (conf : Conf) × Describes text file conf × Breaks text conf.elements name fault
-Judges text file (Err NotBuilt) = ⊥
 Judges text file (Err (NoSource i)) = ⊥
 Judges text file (Err NoLog) = ⊥
 Judges text file (Err (NoOutput j)) = ⊥

@@ -1,4 +1,4 @@
-// How the reading of an input ends.
+// How the reading of an input ends, and why an output ends.
 
 /// How the reading of an input ended. Each is told by a line and a status of its own, but `End`.
 #[derive(Clone, Copy, Debug, PartialEq, Eq)]
@@ -13,4 +13,15 @@ pub enum InputEnd {
     Memory,
     /// An event came that isn't built yet: it is none of one stream.
     NotBuilt,
+}
+
+/// Why an output ended before its text did. Each is told by a line and a status of its own.
+#[derive(Clone, Copy, Debug, PartialEq, Eq)]
+pub enum OutputFault {
+    /// Its sink failed: nothing was written behind that.
+    Failed,
+    /// A Template ID above the last one that it may use was needed: it holds its text of the messages before.
+    Limit,
+    /// Memory was wanted for its text, or for writing it.
+    NoMemory,
 }

@@ -8,8 +8,8 @@ use Rattle.arrival_spec.specs.Arrival.Arrival.{SessionOpen, Raw, SessionClose}
 use Rattle.run_spec.specs.Read.{ReadArrival}
 use Rattle.run_spec.specs.Work.{items_of}
 use Rattle.result_spec.specs.Examples.{in_a}
-use Rattle.result_spec.specs.Result.{inputs_of}
-use Rattle.result_spec.specs.Limited.{ComeTo, both_flows, four_arrivals, limited, one_source}
+use Rattle.result_spec.specs.Result.{ComeTo, inputs_of}
+use Rattle.result_spec.specs.Limited.{both_flows, four_arrivals, limited, one_source}
 
 pub both_come : (last : ℕ) → ComeTo (limited last) one_source four_arrivals 0 both_flows
 both_come last =

@@ -1,5 +1,5 @@
 -- A run over one file into another, whose template IDs have an end.
-use Rattle.std.specs.Prelude.{ℕ, ◌≡◌, List, [], ◌∷◌, ◌++◌, true, false}
+use Rattle.std.specs.Prelude.{ℕ, List, [], ◌∷◌, ◌++◌, true, false}
 use Rattle.col_base.specs.declared.base.Transport.TheVariants.{File}
 use Rattle.wire_spec.specs.Examples.{first_template, second_template}
 use Rattle.config_spec.specs.declared.conf.Conf.{Conf}
@@ -7,18 +7,10 @@ use Rattle.config_spec.specs.declared.conf.OutputKind.TheVariants.{Ipfix}
 use Rattle.config_spec.specs.declared.domains.DomainSet.TheVariants.{All}
 use Rattle.arrival_spec.specs.declared.event.Scripted.{Scripted}
 use Rattle.run_spec.specs.Examples.{stream_of}
-use Rattle.run_spec.specs.Merge.{merged}
-use Rattle.run_spec.specs.Work.{Item, AreDecodedTo}
+use Rattle.run_spec.specs.Work.{Item}
 use Rattle.run_spec.specs.Work.Item.{Note}
 use Rattle.result_spec.specs.Examples.{flow, in_a, output}
-use Rattle.result_spec.specs.Result.{arrivals_from, inputs_of}
-use Rattle.result_spec.specs.Through.{through}
 use Rattle.result_spec.specs.TwoFiles.{one_file}
-
--- what comes to output j of a run in which each input's source gave these events, and arrivals were taken in this order
-abbrev pub ComeTo : Conf → List (List Scripted) → List ℕ → ℕ → List Item → Type 0
-ComeTo conf given order j items =
-    (decoded : List Item) × AreDecodedTo (inputs_of conf) (merged order (arrivals_from (inputs_of conf) 0 given)) decoded × (items ≡ through conf j decoded)
 
 -- one file, and another whose template IDs go up to this one
 abbrev pub limited : ℕ → Conf

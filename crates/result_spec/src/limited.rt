@@ -5,7 +5,8 @@ ghost use Rattle.run_spec.specs.Work.Item.{Note};
 ghost use Rattle.file_spec.specs.File.{file_octets};
 ghost use Rattle.file_spec.specs.Limit.{items_within};
 ghost use Rattle.result_spec.specs.Examples.{five_messages, flow, in_a};
-ghost use Rattle.result_spec.specs.Limited.{ComeTo, both_flows, four_arrivals, limited, one_source};
+ghost use Rattle.result_spec.specs.Limited.{both_flows, four_arrivals, limited, one_source};
+ghost use Rattle.result_spec.specs.Result.{ComeTo};
 
 /// Two messages come whatever the last ID is. Up to 256 only the first has a number for its definition, and up to 257 both.
 pub fn a_file_ends_at_its_last_template_id()
