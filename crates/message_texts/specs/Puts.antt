@@ -6,17 +6,9 @@ use Rattle.run_spec.specs.Work.{Item}
 use Rattle.result_spec.specs.Result.{Exceeds, text_by}
 use Rattle.result_spec.specs.Through.{is_for}
 use Rattle.pipeline_message.specs.declared.message.Msg.{Msg}
-use Rattle.pipeline_message.specs.declared.message.Msg.TheVariants.{SessionMsg, DataMsg, Periodic, Terminate}
-use Rattle.pipeline_message.specs.Items.{items_of, IsSound}
+use Rattle.pipeline_message.specs.Items.{items_of}
 use Rattle.message_texts.specs.declared.texts.TextFault.{TextFault}
 use Rattle.message_texts.specs.declared.texts.TextFault.TheVariants as fault
-
--- the sets of a message, if it has any, have records at their places
-abbrev pub IsSoundMessage : Msg → Type 0
-IsSoundMessage (SessionMsg note) = ⊤
-IsSoundMessage (DataMsg m) = IsSound m.value
-IsSoundMessage (Periodic input seconds) = ⊤
-IsSoundMessage Terminate = ⊤
 
 -- of the items behind the intermediates those that come to an output, and its text of them
 abbrev pub items_at : OutputConf → List Item → List Item
