@@ -18,8 +18,8 @@ use Rattle.call_spec.specs.Pairs.{Each}
 use Rattle.call_spec.proofs.NameLemmas.{none_after}
 use Rattle.call_spec.proofs.PairLemmas.{same_length}
 use Rattle.call_spec.specs.Plan.{described_parties, output_party}
-use Rattle.logged_output.specs.declared.logged.LoggedOutput.{LoggedOutput}
-use Rattle.logged_output.specs.Logged.{Took}
+use Rattle.logged_outputs.specs.declared.logged.LoggedOutputs.{LoggedOutputs}
+use Rattle.logged_outputs.specs.Logged.{Took}
 use Rattle.run_input.specs.declared.input.Input.{Input}
 use Rattle.run_input.specs.Inputs.{HasGiven, IsRight}
 use Rattle.input_turns.specs.Turns.{Follows, InputSoFar}
@@ -70,7 +70,7 @@ nothing_tried left faults conf a = (
 
 module _ {S T K : Type 0} (left : S → Option (List Scripted)) (faults : S → ℕ) (stands : Conf → List Element → ℕ → List Item → T → Type 0) (held : K → Option (List ℕ)) (own_faults : K → ℕ) (conf : Conf) where
   -- new inputs that were asked until they had ended handed on what they gave
-  pub handed_on : (texts : T) (firsts : List S) (sinks : List K) (xs now_xs : List (Input S)) (first now : LoggedOutput T K) → AreMade left faults conf firsts xs → IsNew held own_faults sinks texts first → list_all (λ (x : Input S). is_some x.end) now_xs ≡ true
+  pub handed_on : (texts : T) (firsts : List S) (sinks : List K) (xs now_xs : List (Input S)) (first now : LoggedOutputs T K) → AreMade left faults conf firsts xs → IsNew held own_faults sinks texts first → list_all (λ (x : Input S). is_some x.end) now_xs ≡ true
       → Follows left faults (Took stands held own_faults) xs now_xs first now → HandedOn left faults stands held own_faults conf texts firsts sinks now_xs now
   handed_on texts firsts sinks xs now_xs first now e n ended f = record {
     entries = f.0;
@@ -95,7 +95,7 @@ module _ {S T K : Type 0} (left : S → Option (List Scripted)) (faults : S → 
     sources_long =
         sym (same_length (Begins place_left place_faults place_openings place_out left faults all_left old.place) 0 (places_of conf.inputs) firsts out.1.all.each) ∙ length-map conf.inputs (λ (c : InputConf). c.spec.place)
 
-    module _ (texts : T) (xs : List (Input S)) (taker : LoggedOutput T K) (h : HandedOn left faults stands held own_faults conf texts firsts sinks xs taker) where
+    module _ (texts : T) (xs : List (Input S)) (taker : LoggedOutputs T K) (h : HandedOn left faults stands held own_faults conf texts firsts sinks xs taker) where
       pub inputs_long : length xs ≡ length conf.inputs
       inputs_long = sym (same_length (InputSoFar left faults (inputs_of conf) h.entries) 0 firsts xs h.so_far.each) ∙ sources_long
 

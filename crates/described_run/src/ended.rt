@@ -5,7 +5,7 @@ ghost use Rattle.run_came.specs.Told.{IsNoted};
 
 use call_spec::InputEnd;
 use config_spec::Conf;
-use logged_output::{LoggedOutput, OutputFault};
+use logged_outputs::{LoggedOutputs, OutputFault};
 use message_texts::MessageTexts;
 use order_log::OrderLog;
 use pipeline_message::RunCounts;
@@ -64,7 +64,7 @@ fn note_stage(fault: Option<OutputFault>, stages: &mut Vec<bool>)
 /// Notes how the inputs, the log, the intermediates and the output of a run ended, and what was counted. It takes no memory.
 pub fn note_all<S: Source, T: MessageTexts, K: Sink>(
     inputs: &[Input<S>],
-    taker: &LoggedOutput<T, K>,
+    taker: &LoggedOutputs<T, K>,
     ended: &mut Ended,
 )
     requires inputs { length ended.old.inputs.items ≡ length inputs.now }

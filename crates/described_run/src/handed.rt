@@ -7,7 +7,7 @@ ghost use Rattle.run_came.specs.Ran.{HandedOn};
 
 use crate::taker::{begin, take_sinks};
 use input_turns::ask_all;
-use logged_output::LoggedOutput;
+use logged_outputs::LoggedOutputs;
 use message_texts::MessageTexts;
 use run_input::Input;
 use site_io::{Sink, Source};
@@ -21,7 +21,7 @@ pub fn hand_on<R: Wait + Clock, S: Source, T: MessageTexts, K: Sink>(
     texts: T,
     inputs: &mut Vec<Input<S>>,
     sinks: &mut Vec<K>,
-) -> LoggedOutput<T, K>
+) -> LoggedOutputs<T, K>
     requires right { All (IsRight S.left S.faults) inputs.old.items }
     requires some { 1 ≤ length sinks.old.items }
     requires few { length sinks.old.items ≤ 2 }

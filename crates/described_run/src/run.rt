@@ -18,7 +18,7 @@ use crate::handed::hand_on;
 use crate::taker::end;
 use col_base::{Text, WantOfMemory};
 use config_spec::Conf;
-use logged_output::LoggedOutput;
+use logged_outputs::LoggedOutputs;
 use message_texts::MessageTexts;
 use run_input::Input;
 use run_inputs::{give_back, make_inputs};
@@ -35,7 +35,7 @@ fn give_all_back<S: Site, T: MessageTexts + Drop>(
     conf: &Conf,
     names: &[Text],
     inputs: Vec<Input<S::Src>>,
-    taker: LoggedOutput<T, S::Out>,
+    taker: LoggedOutputs<T, S::Out>,
     room: Opened<S::Src, S::Out>,
     site: &mut S,
 )

@@ -2,7 +2,7 @@
 ghost use Rattle.std.specs.Prelude.{◌≡◌, ◌≤◌, ◌<◌, ◌++◌, ◌∷◌, [], length, option_to_list, vec_capacity, vec_len};
 ghost use Rattle.run_came.specs.Ran.{AreNewOver, IsNew, sinks_of};
 
-use logged_output::{LoggedOutput, Output};
+use logged_outputs::{LoggedOutputs, Output};
 use message_texts::MessageTexts;
 use order_log::OrderLog;
 use site_io::Sink;
@@ -32,10 +32,10 @@ fn begin_log<K: Sink>(log: Option<K>) -> Option<OrderLog<K>>
 }
 
 /// A log without entries, if it has a sink, and an output that makes its texts so. It takes no memory.
-pub fn begin<T: MessageTexts, K: Sink>(texts: T, log: Option<K>, output: K) -> LoggedOutput<T, K>
+pub fn begin<T: MessageTexts, K: Sink>(texts: T, log: Option<K>, output: K) -> LoggedOutputs<T, K>
     ensures { IsNew K.held K.faults (option_to_list log ++ output ∷ []) texts result }
 {
-    LoggedOutput {
+    LoggedOutputs {
         log: begin_log(log),
         output: Output {
             texts,
@@ -58,12 +58,12 @@ fn put<K>(sinks: &mut Vec<K>, sink: K)
 }
 
 /// Gives the sinks of a log and an output back, into a vector that has room for them. It takes no memory.
-pub fn end<T: MessageTexts + Drop, K: Sink>(taker: LoggedOutput<T, K>, sinks: &mut Vec<K>)
+pub fn end<T: MessageTexts + Drop, K: Sink>(taker: LoggedOutputs<T, K>, sinks: &mut Vec<K>)
     requires empty { sinks.old.items ≡ [] }
     requires room { length (sinks_of taker) ≤ vec_capacity sinks.old }
     ensures { sinks.new.items ≡ sinks_of taker }
 {
-    let LoggedOutput { log, output } = taker;
+    let LoggedOutputs { log, output } = taker;
     let Output { sink, .. } = output;
     if let Some(log) = log {
         put(sinks, log.back());

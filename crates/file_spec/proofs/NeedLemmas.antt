@@ -96,3 +96,23 @@ within_front last past (i ∷ items) enough =
 
 pub within_all : (last : ℕ) (items : List Item) → file_needs items ≤ last → items_within last items ≡ items
 within_all last items enough = within_front last [] items enough
+
+-- Where one item more is the first that needs too much, those before it are held.
+before_one : (last : ℕ) (past items : List Item) (i : Item) → file_needs (past ++ items) ≤ last → last < file_needs (past ++ (items ++ i ∷ [])) → within_after last past (items ++ i ∷ []) ≡ items
+before_one last past [] i enough over = by_test (nat_lt last (file_needs (past ++ i ∷ []))) refl
+  where
+    by_test : (b : Bool) → nat_lt last (file_needs (past ++ i ∷ [])) ≡ b → cond b [] (i ∷ []) ≡ []
+    by_test true is = refl
+    by_test false is = absurd (let most = ltb-false last (file_needs (past ++ i ∷ [])) is in omega (arith, most, over))
+before_one last past (x ∷ items) i enough over =
+    let whole : file_needs ((past ++ x ∷ []) ++ items) ≤ last = subst (λ (l : List Item). file_needs l ≤ last) (sym (append_assoc past (x ∷ []) items)) enough in
+    let above : last < file_needs ((past ++ x ∷ []) ++ (items ++ i ∷ [])) = subst (λ (l : List Item). last < file_needs l) (sym (append_assoc past (x ∷ []) (items ++ i ∷ []))) over in
+    by_test whole (nat_lt last (file_needs (past ++ x ∷ []))) refl (before_one last (past ++ x ∷ []) items i whole above)
+  where
+    by_test : file_needs ((past ++ x ∷ []) ++ items) ≤ last → (b : Bool) → nat_lt last (file_needs (past ++ x ∷ [])) ≡ b → within_after last (past ++ x ∷ []) (items ++ i ∷ []) ≡ items
+        → cond b [] (x ∷ within_after last (past ++ x ∷ []) (items ++ i ∷ [])) ≡ x ∷ items
+    by_test whole true is further = absurd (let over = ltb-true last (file_needs (past ++ x ∷ [])) is in let grow = needs_grow (past ++ x ∷ []) items in omega (arith, over, grow, whole))
+    by_test whole false is further = ap (λ l. x ∷ l) further
+
+pub within_one : (last : ℕ) (items : List Item) (i : Item) → file_needs items ≤ last → last < file_needs (items ++ i ∷ []) → items_within last (items ++ i ∷ []) ≡ items
+within_one last items i enough over = before_one last [] items i enough over

@@ -17,9 +17,9 @@ use Rattle.input_lane.specs.Inlets.{and_given}
 use Rattle.run_input.specs.declared.input.Input.{Input}
 use Rattle.run_input.specs.declared.input.InputAnswer.TheVariants as answer
 use Rattle.run_input.specs.Inputs.{HasGiven, Brings, IsRight}
-use Rattle.logged_output.specs.Entries.{AreOf, Entry, entries_of, items_in}
+use Rattle.logged_outputs.specs.Entries.{AreOf, Entry, entries_of, items_in}
 use Rattle.input_turns.specs.Turns.{Follows, Turned, Went, InputGives, InputSoFar, SoFar, Gives}
-use Rattle.logged_output.proofs.EntryLemmas.{all_joined, entry, entry_one, own_known, own_more, own_other, takes_then}
+use Rattle.logged_outputs.proofs.EntryLemmas.{all_joined, entry, entry_one, own_known, own_more, own_other, takes_then}
 
 module _ {S : Type 0} (left : S → Option (List Scripted)) (faults : S → ℕ) where
   abbrev Has : S → Settings → ℕ → List Scripted → List ReadArrival → Input S → Type 0

@@ -10,7 +10,7 @@ use Rattle.parser_lane.specs.Parsers.{inputs}
 use Rattle.run_input.specs.declared.input.Input.{Input}
 use Rattle.run_input.specs.declared.input.InputAnswer.TheVariants as answer
 use Rattle.run_input.specs.Inputs.{Brings, HasGiven, IsRight}
-use Rattle.logged_output.specs.Entries.{AreKnown, AreOf, Entry, items_in, own, Takes}
+use Rattle.logged_outputs.specs.Entries.{AreKnown, AreOf, Entry, items_in, own, Takes}
 
 module _ {S : Type 0} (left : S → Option (List Scripted)) (faults : S → ℕ) where
   -- an input has ended, or its source had nothing ready when it was asked last

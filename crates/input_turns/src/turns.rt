@@ -2,10 +2,10 @@
 ghost use Rattle.std.specs.Prelude.{◌≡◌, true, false, All, is_some};
 ghost use Rattle.std.specs.List.{list_all};
 ghost use Rattle.run_input.specs.Inputs.{IsRight};
-ghost use Rattle.logged_output.specs.Logged.{Took};
+ghost use Rattle.logged_outputs.specs.Logged.{Took};
 ghost use Rattle.input_turns.specs.Turns.{Follows, HadNothing, Turned};
 
-use logged_output::LoggedOutput;
+use logged_outputs::LoggedOutputs;
 use message_texts::MessageTexts;
 use run_input::{Input, InputAnswer};
 use site_io::{Sink, Source};
@@ -25,7 +25,7 @@ const PAUSE: u64 = 5;
 /// source had something.
 fn ask<S: Source, T: MessageTexts, K: Sink>(
     input: &mut Input<S>,
-    taker: &mut LoggedOutput<T, K>,
+    taker: &mut LoggedOutputs<T, K>,
 ) -> bool
     requires { IsRight S.left S.faults input.old }
     ensures right { IsRight S.left S.faults input.new }
@@ -47,7 +47,7 @@ fn ask<S: Source, T: MessageTexts, K: Sink>(
 /// The turn of an input. Answers whether anything came of it: an event, a message or its end.
 fn turn<S: Source, T: MessageTexts, K: Sink>(
     input: &mut Input<S>,
-    taker: &mut LoggedOutput<T, K>,
+    taker: &mut LoggedOutputs<T, K>,
 ) -> bool
     requires { IsRight S.left S.faults input.old }
     ensures right { IsRight S.left S.faults input.new }
@@ -68,7 +68,7 @@ fn turn<S: Source, T: MessageTexts, K: Sink>(
 /// A turn of each input. Answers whether anything came of one.
 fn round<S: Source, T: MessageTexts, K: Sink>(
     inputs: &mut Vec<Input<S>>,
-    taker: &mut LoggedOutput<T, K>,
+    taker: &mut LoggedOutputs<T, K>,
 ) -> bool
     requires { All (IsRight S.left S.faults) inputs.old.items }
     ensures right { All (IsRight S.left S.faults) inputs.new.items }
@@ -101,7 +101,7 @@ fn have_ended<S: Source>(inputs: &Vec<Input<S>>) -> bool
 pub fn ask_all<R: Wait + Clock, S: Source, T: MessageTexts, K: Sink>(
     rt: &R,
     inputs: &mut Vec<Input<S>>,
-    taker: &mut LoggedOutput<T, K>,
+    taker: &mut LoggedOutputs<T, K>,
 )
     requires { All (IsRight S.left S.faults) inputs.old.items }
     ensures ended { list_all (λ x. is_some x.end) inputs.new.items ≡ true }

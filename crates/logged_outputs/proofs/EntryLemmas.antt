@@ -8,7 +8,7 @@ use Rattle.std.proofs.lemmas.List.Elements.{filter-append}
 use Rattle.run_spec.specs.Work.{Item}
 use Rattle.pipeline_message.specs.declared.message.Msg.{Msg}
 use Rattle.pipeline_message.specs.Items.{item_of, items_of}
-use Rattle.logged_output.specs.Entries.{AreKnown, AreOf, Entry, entries_of, items_in, own, Takes}
+use Rattle.logged_outputs.specs.Entries.{AreKnown, AreOf, Entry, entries_of, items_in, own, Takes}
 
 abbrev pub entry : ℕ → Item → Entry
 entry n i = record { input = n; item = i }

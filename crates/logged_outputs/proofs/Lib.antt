@@ -1,3 +1,4 @@
 pub mod EntryLemmas
 pub mod OutputLemmas
+pub mod BehindLemmas
 pub mod LogLemmas

@@ -3,7 +3,7 @@ use Rattle.std.proofs.Common.{◌≡◌, ℕ, Bool, true, false, List, [], ◌�
 use Rattle.std.specs.Prelude.{MatchOption, IsSome, is_some, is_none}
 use Rattle.std.specs.List.{cons_option}
 use Rattle.std.proofs.lemmas.List.{map-append}
-use Rattle.config_spec.specs.declared.conf.Conf.{Conf}
+use Rattle.config_spec.specs.declared.conf.OutputConf.{OutputConf}
 use Rattle.text_spec.specs.declared.element.Element.{Element}
 use Rattle.run_spec.specs.Work.{Item}
 use Rattle.site_io.specs.declared.outside.OutsideFault.{OutsideFault}
@@ -11,18 +11,18 @@ use Rattle.pipeline_message.specs.declared.message.Msg.{Msg}
 use Rattle.pipeline_message.specs.Items.{item_of, items_of}
 use Rattle.order_log.specs.declared.order_log.OrderLog.{OrderLog}
 use Rattle.order_log.specs.Entries.{Enters, Stands}
-use Rattle.logged_output.specs.Entries.{Entry, entries_of, items_in, order_of, Takes}
-use Rattle.logged_output.proofs.EntryLemmas.{entry, entry_one}
-use Rattle.logged_output.specs.declared.logged.LoggedOutput.{LoggedOutput}
-use Rattle.logged_output.specs.Logs.{EntersLog, LogTook, goes_on, next_of}
-use Rattle.logged_output.specs.Logged.{Took}
-use Rattle.logged_output.specs.Outputs.{OutputHas, PutsMessage}
+use Rattle.logged_outputs.specs.Entries.{Entry, entries_of, items_in, order_of, Takes}
+use Rattle.logged_outputs.proofs.EntryLemmas.{entry, entry_one}
+use Rattle.logged_outputs.specs.declared.logged.LoggedOutputs.{LoggedOutputs}
+use Rattle.logged_outputs.specs.Logs.{EntersLog, LogTook, goes_on, next_of}
+use Rattle.logged_outputs.specs.Logged.{Took}
+use Rattle.logged_outputs.specs.Behind.{ItemsWent, PutsItems}
 
 none_next : (rest : List Entry) → next_of rest ≡ None → rest ≡ []
 none_next [] e = refl
 none_next (x ∷ rest) e = absurd cc
 
-none_of : {X : Type 0} (o : Option X) → is_some o ≡ false → o ≡ None
+pub none_of : {X : Type 0} (o : Option X) → is_some o ≡ false → o ≡ None
 none_of None e = refl
 none_of (Some x) e = absurd cc
 
@@ -80,10 +80,10 @@ module _ {K : Type 0} (held : K → Option (List ℕ)) (faults : K → ℕ) (fro
           subst (λ (m : OrderLog K). Stands held faults f.sink (order_of front) (next_of (rest ++ x ∷ [])) m) (sym same)
           (subst (λ r. Stands held faults f.sink (order_of front) r o) (sym (still_next rest x (sym l.ended ∙ ap is_some is))) l)
 
-module _ {T K : Type 0} (stands : Conf → List Element → ℕ → List Item → T → Type 0) (held : K → Option (List ℕ)) (faults : K → ℕ) where
-  -- the text of a message was written
-  pub take_written : (input : ℕ) (msg : Msg) (item : Item) (old new : LoggedOutput T K) → item_of msg ≡ Some item → EntersLog held faults input old.log new.log → goes_on new.log ≡ true → PutsMessage held faults stands msg old.output new.output
-      → Takes (Took stands held faults) (entries_of input msg) old new
+module _ {T K : Type 0} (stands : OutputConf → List Element → List Item → T → Type 0) (held : K → Option (List ℕ)) (total : K → Option ℕ) (faults : K → ℕ) where
+  -- the texts of a message were written
+  pub take_written : (input : ℕ) (msg : Msg) (item : Item) (old new : LoggedOutputs T K) → item_of msg ≡ Some item → EntersLog held faults input old.log new.log → goes_on new.log ≡ true → PutsItems stands held total faults msg old.outputs new.outputs
+      → Takes (Took stands held total faults) (entries_of input msg) old new
   take_written input msg item old new is e g p first entries t =
       let x = entry input item in
       let l = took_entry held faults t.front t.rest x first.log old.log new.log t.logged e g in
@@ -93,14 +93,14 @@ module _ {T K : Type 0} (stands : Conf → List Element → ℕ → List Item �
         rest = [];
         whole = ap (λ m. entries ++ m) one ∙ (ap (λ m. m ++ x ∷ []) (t.whole ∙ (ap (λ r. t.front ++ r) l.0 ∙ append-nil t.front)) ∙ sym (append-nil (t.front ++ x ∷ [])));
         logged = l.1;
-        written = λ conf table j s n.
-            subst (λ items. OutputHas held faults stands conf table j items first.output new.output) (ap (λ o. items_in t.front ++ cons_option o []) is ∙ sym (map-append (λ (y : Entry). y.item) t.front (x ∷ [])))
-            (p conf table j (items_in t.front) first.output (t.written conf table j s n));
+        written =
+            subst (λ items. ItemsWent stands held total faults items first.outputs new.outputs) (ap (λ o. items_in t.front ++ cons_option o []) is ∙ sym (map-append (λ (y : Entry). y.item) t.front (x ∷ [])))
+            (p first.outputs (items_in t.front) t.written);
       }
 
-  -- it was not
-  pub take_unwritten : (input : ℕ) (msg : Msg) (item : Item) (old new : LoggedOutput T K) → item_of msg ≡ Some item → EntersLog held faults input old.log new.log → goes_on new.log ≡ false → new.output ≡ old.output
-      → Takes (Took stands held faults) (entries_of input msg) old new
+  -- they were not
+  pub take_unwritten : (input : ℕ) (msg : Msg) (item : Item) (old new : LoggedOutputs T K) → item_of msg ≡ Some item → EntersLog held faults input old.log new.log → goes_on new.log ≡ false → new.outputs ≡ old.outputs
+      → Takes (Took stands held total faults) (entries_of input msg) old new
   take_unwritten input msg item old new is e g same first entries t =
       let x = entry input item in
       let one : entries_of input msg ≡ x ∷ [] = entry_one input msg item is in
@@ -109,7 +109,7 @@ module _ {T K : Type 0} (stands : Conf → List Element → ℕ → List Item �
         rest = t.rest ++ x ∷ [];
         whole = ap (λ m. entries ++ m) one ∙ (ap (λ m. m ++ x ∷ []) t.whole ∙ append_assoc t.front t.rest (x ∷ []));
         logged = stopped held faults t.front t.rest x first.log old.log new.log t.logged e g;
-        written = λ conf table j s n. subst (OutputHas held faults stands conf table j (items_in t.front) first.output) (sym same) (t.written conf table j s n);
+        written = subst (λ o. ItemsWent stands held total faults (items_in t.front) first.outputs o) (sym same) t.written;
       }
 
 -- the item of a message that stands for one

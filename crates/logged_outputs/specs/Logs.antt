@@ -2,7 +2,7 @@
 use Rattle.std.specs.Prelude.{ℕ, ◌≡◌, ⊤, Bool, true, List, [], ◌∷◌, ◌++◌, Option, Some, None, MatchOption, IsSome, is_none}
 use Rattle.order_log.specs.declared.order_log.OrderLog.{OrderLog}
 use Rattle.order_log.specs.Entries.{Enters, Stands}
-use Rattle.logged_output.specs.Entries.{Entry, order_of}
+use Rattle.logged_outputs.specs.Entries.{Entry, order_of}
 
 -- whether texts are written still
 abbrev pub goes_on : {K : Type 0} → Option (OrderLog K) → Bool

@@ -20,7 +20,7 @@ use Rattle.call_spec.specs.Names.{times}
 use Rattle.call_spec.specs.Pairs.{Each}
 use Rattle.call_spec.specs.Plan.{input_party}
 use Rattle.call_spec.specs.Plan.Plan.{Described}
-use Rattle.logged_output.specs.Entries.{Entry}
+use Rattle.logged_outputs.specs.Entries.{Entry}
 use Rattle.run_input.specs.declared.input.Input.{Input}
 use Rattle.run_entries.specs.Came.{InputCameTo, end_or}
 use Rattle.run_entries.proofs.EndLemmas.{input_ends}

@@ -20,13 +20,13 @@ use Rattle.call_spec.specs.Counts.{MovesBy}
 use Rattle.call_spec.specs.Ends.{Holds, HoldsAs, has_failed}
 use Rattle.order_log.specs.declared.order_log.OrderLog.{OrderLog}
 use Rattle.order_log.specs.Entries.{Stands}
-use Rattle.logged_output.specs.declared.logged.LoggedOutput.{LoggedOutput}
-use Rattle.logged_output.specs.declared.output.Output.{Output}
-use Rattle.logged_output.specs.declared.output.OutputFault.{OutputFault}
-use Rattle.logged_output.specs.declared.output.OutputFault.TheVariants as fault
-use Rattle.logged_output.specs.Logged.{Took}
-use Rattle.logged_output.specs.Logs.{LogTook}
-use Rattle.logged_output.specs.Outputs.{HoldsAll, HoldsFront, OutputHas, sink_failed}
+use Rattle.logged_outputs.specs.declared.logged.LoggedOutputs.{LoggedOutputs}
+use Rattle.logged_outputs.specs.declared.output.Output.{Output}
+use Rattle.logged_outputs.specs.declared.output.OutputFault.{OutputFault}
+use Rattle.logged_outputs.specs.declared.output.OutputFault.TheVariants as fault
+use Rattle.logged_outputs.specs.Logged.{Took}
+use Rattle.logged_outputs.specs.Logs.{LogTook}
+use Rattle.logged_outputs.specs.Outputs.{HoldsAll, HoldsFront, OutputHas, sink_failed}
 use Rattle.run_came.specs.Ends.{own_fault, wanting}
 use Rattle.run_came.specs.Ran.{AreNewOver, IsNew}
 use Rattle.run_came.proofs.InputLemmas.{counted_failed}
@@ -71,7 +71,7 @@ module _ {T K : Type 0} (stands : Conf → List Element → ℕ → List Item �
       new_log new e = record { entries = grows_none (held new.sink); ended = e; counts = moves_not new.fault (faults new.sink) e }
   still_new (a ∷ (b ∷ (c ∷ more))) log sink n = absurd n
 
-  pub none_taken : (sinks : List K) (texts : T) (first : LoggedOutput T K) → IsNew held faults sinks texts first → Took stands held faults [] first first
+  pub none_taken : (sinks : List K) (texts : T) (first : LoggedOutputs T K) → IsNew held faults sinks texts first → Took stands held faults [] first first
   none_taken sinks texts first n = record {
     front = [];
     rest = [];

@@ -24,9 +24,9 @@ use Rattle.call_spec.proofs.NameLemmas.{members}
 use Rattle.call_spec.proofs.PairLemmas.{same_length}
 use Rattle.call_spec.specs.Plan.{described_parties, input_party, output_party}
 use Rattle.call_spec.specs.Plan.Plan.{Described}
-use Rattle.logged_output.specs.declared.logged.LoggedOutput.{LoggedOutput}
-use Rattle.logged_output.specs.Entries.{Entry, items_in, order_of}
-use Rattle.logged_output.specs.Logged.{Took}
+use Rattle.logged_outputs.specs.declared.logged.LoggedOutputs.{LoggedOutputs}
+use Rattle.logged_outputs.specs.Entries.{Entry, items_in, order_of}
+use Rattle.logged_outputs.specs.Logged.{Took}
 use Rattle.run_input.specs.declared.input.Input.{Input}
 use Rattle.input_turns.specs.Turns.{InputSoFar}
 use Rattle.run_entries.specs.Came.{AreEntriesOf, InputCameTo}
@@ -55,7 +55,7 @@ text_kept : (x y : TextSeen) → y ≡ x → TextKept false x y
 text_kept x y e = record { octets = ap (λ (t : TextSeen). t.octets) e; faults = ap (λ (t : TextSeen). t.faults) e }
 
 module _ {S T K : Type 0} (left : S → Option (List Scripted)) (faults : S → ℕ) (stands : Conf → List Element → ℕ → List Item → T → Type 0) (held : K → Option (List ℕ)) (own_faults : K → ℕ)
-    (conf : Conf) (texts : T) (xs : List (Input S)) (taker : LoggedOutput T K) (ended : Ended) (old new : Seen) (o : OutputConf) (alone : conf.outputs ≡ o ∷ []) (distinct : AreDistinct (sink_names (described_parties conf)))
+    (conf : Conf) (texts : T) (xs : List (Input S)) (taker : LoggedOutputs T K) (ended : Ended) (old new : Seen) (o : OutputConf) (alone : conf.outputs ≡ o ∷ []) (distinct : AreDistinct (sink_names (described_parties conf)))
     (r : RanOver left faults stands held own_faults conf texts xs taker old new) (noted : IsNoted (length conf.stages) xs taker ended) where
   abbrev places : List (List ℕ)
   places = places_of conf.inputs
@@ -98,7 +98,7 @@ module _ {S T K : Type 0} (left : S → Option (List Scripted)) (faults : S → 
     firsts = came.0;
     each = came.1;
     came = refl;
-    known = subst (λ n. Rattle.logged_output.specs.Entries.AreKnown n r.handed.entries) (same_length (InputSoFar left faults (inputs_of conf) r.handed.entries) 0 r.sources xs r.handed.so_far.each) r.handed.so_far.known;
+    known = subst (λ n. Rattle.logged_outputs.specs.Entries.AreKnown n r.handed.entries) (same_length (InputSoFar left faults (inputs_of conf) r.handed.entries) 0 r.sources xs r.handed.so_far.each) r.handed.so_far.known;
     ended = r.handed.ended;
   })
 
@@ -217,7 +217,7 @@ module _ {S T K : Type 0} (left : S → Option (List Scripted)) (faults : S → 
   came_to = (run, tells, r.sources_back.rest.say ∙ (r.sinks_back.rest.say ∙ (r.out.2.rest.say ∙ r.out.1.rest.say)), λ rows s. comes rows s)
 
 pub run_came : {S T K : Type 0} (left : S → Option (List Scripted)) (faults : S → ℕ) (stands : Conf → List Element → ℕ → List Item → T → Type 0) (held : K → Option (List ℕ)) (own_faults : K → ℕ)
-    (conf : Conf) (texts : T) (xs : List (Input S)) (taker : LoggedOutput T K) (ended : Ended) (old new : Seen) → length conf.outputs ≡ 1 → AreDistinct (sink_names (described_parties conf))
+    (conf : Conf) (texts : T) (xs : List (Input S)) (taker : LoggedOutputs T K) (ended : Ended) (old new : Seen) → length conf.outputs ≡ 1 → AreDistinct (sink_names (described_parties conf))
     → RanOver left faults stands held own_faults conf texts xs taker old new → IsNoted (length conf.stages) xs taker ended → CameToRun left faults stands conf texts ended old new
 run_came left faults stands held own_faults conf texts xs taker ended old new one distinct r noted =
     let alone = one_output conf.outputs one in

@@ -12,8 +12,8 @@ use Rattle.call_spec.specs.Names.{times}
 use Rattle.call_spec.specs.Pairs.{Each}
 use Rattle.order_log.specs.declared.order_log.OrderLog.{OrderLog}
 use Rattle.order_log.specs.Entries.{HasEntries, Stands}
-use Rattle.logged_output.specs.Entries.{Entry, order_of}
-use Rattle.logged_output.specs.Logs.{LogTook, next_of}
+use Rattle.logged_outputs.specs.Entries.{Entry, order_of}
+use Rattle.logged_outputs.specs.Logs.{LogTook, next_of}
 use Rattle.site_openings.specs.Out.{AreDistinct, Begins, CameBack, Shows, WentOut}
 use Rattle.site_openings.specs.Sinks.{nothing_held, sink_faults, sink_held, sink_openings, sink_out}
 use Rattle.run_came.specs.Ends.{log_fault}

@@ -2,8 +2,8 @@
 use Rattle.std.specs.Prelude.{ℕ, Bool, true, false, List, Option, Some, None, replicate, set}
 use Rattle.site_io.specs.declared.outside.OutsideFault.{OutsideFault}
 use Rattle.order_log.specs.declared.order_log.OrderLog.{OrderLog}
-use Rattle.logged_output.specs.declared.output.OutputFault.{OutputFault}
-use Rattle.logged_output.specs.declared.output.OutputFault.TheVariants as fault
+use Rattle.logged_outputs.specs.declared.output.OutputFault.{OutputFault}
+use Rattle.logged_outputs.specs.declared.output.OutputFault.TheVariants as fault
 
 -- why the log ended, if there is one and it did
 abbrev pub log_fault : {K : Type 0} → Option (OrderLog K) → Option OutsideFault

@@ -12,9 +12,9 @@ use Rattle.call_spec.specs.Leaves.{sink_names}
 use Rattle.call_spec.specs.Plan.{described_parties}
 use Rattle.order_log.specs.declared.order_log.OrderLog.{OrderLog}
 use Rattle.order_log.specs.Entries.{Stands}
-use Rattle.logged_output.specs.declared.logged.LoggedOutput.{LoggedOutput}
-use Rattle.logged_output.specs.Entries.{Entry}
-use Rattle.logged_output.specs.Logged.{Took}
+use Rattle.logged_outputs.specs.declared.logged.LoggedOutputs.{LoggedOutputs}
+use Rattle.logged_outputs.specs.Entries.{Entry}
+use Rattle.logged_outputs.specs.Logged.{Took}
 use Rattle.run_input.specs.declared.input.Input.{Input}
 use Rattle.input_turns.specs.Turns.{SoFar}
 use Rattle.run_inputs.specs.Made.{sources_of}
@@ -27,7 +27,7 @@ abbrev pub log_sinks : {K : Type 0} → Option (OrderLog K) → List K
 log_sinks None = []
 log_sinks (Some log) = log.sink ∷ []
 
-abbrev pub sinks_of : {T K : Type 0} → LoggedOutput T K → List K
+abbrev pub sinks_of : {T K : Type 0} → LoggedOutputs T K → List K
 sinks_of taker = log_sinks taker.log ++ taker.output.sink ∷ []
 
 module _ {K : Type 0} (held : K → Option (List ℕ)) (faults : K → ℕ) where
@@ -39,22 +39,22 @@ module _ {K : Type 0} (held : K → Option (List ℕ)) (faults : K → ℕ) wher
   AreNewOver (a ∷ (b ∷ (c ∷ more))) log sink = ⊥
 
   -- nothing was taken yet
-  pub record IsNew {T : Type 0} (sinks : List K) (texts : T) (taker : LoggedOutput T K) : Type 0 where
+  pub record IsNew {T : Type 0} (sinks : List K) (texts : T) (taker : LoggedOutputs T K) : Type 0 where
     pub over : AreNewOver sinks taker.log taker.output.sink
     pub makes : taker.output.texts ≡ texts
     pub goes_on : taker.output.fault ≡ None
 
 module _ {S T K : Type 0} (left : S → Option (List Scripted)) (faults : S → ℕ) (stands : Conf → List Element → ℕ → List Item → T → Type 0) (held : K → Option (List ℕ)) (sink_faults : K → ℕ) where
   -- between, over what was opened, the inputs had all ended, with what became of their entries
-  pub record HandedOn (conf : Conf) (texts : T) (sources : List S) (sinks : List K) (xs : List (Input S)) (taker : LoggedOutput T K) : Type 0 where
+  pub record HandedOn (conf : Conf) (texts : T) (sources : List S) (sinks : List K) (xs : List (Input S)) (taker : LoggedOutputs T K) : Type 0 where
     pub entries : List Entry
     pub so_far : SoFar left faults (inputs_of conf) entries sources xs
     pub ended : list_all (λ (x : Input S). is_some x.end) xs ≡ true
-    pub first : LoggedOutput T K
+    pub first : LoggedOutputs T K
     pub is_new : IsNew held sink_faults sinks texts first
     pub took : Took stands held sink_faults entries first taker
 
-  pub record RanOver (conf : Conf) (texts : T) (xs : List (Input S)) (taker : LoggedOutput T K) (old new : Seen) : Type 0 where
+  pub record RanOver (conf : Conf) (texts : T) (xs : List (Input S)) (taker : LoggedOutputs T K) (old new : Seen) : Type 0 where
     pub sources : List S
     pub sinks : List K
     pub all_open : Seen

@@ -12,7 +12,7 @@ use Rattle.call_spec.specs.Leaves.{Comes}
 use Rattle.call_spec.specs.Lines.{ends_of}
 use Rattle.call_spec.specs.Plan.Plan.{Described}
 use Rattle.pipeline_message.specs.declared.run_counts.RunCounts.{RunCounts}
-use Rattle.logged_output.specs.declared.logged.LoggedOutput.{LoggedOutput}
+use Rattle.logged_outputs.specs.declared.logged.LoggedOutputs.{LoggedOutputs}
 use Rattle.run_input.specs.declared.input.Input.{Input}
 use Rattle.run_input.specs.Inputs.{CountsAll}
 use Rattle.run_entries.specs.Came.{end_or}
@@ -22,7 +22,7 @@ use Rattle.run_lines.specs.Rows.{meant_counts}
 use Rattle.run_came.specs.Ends.{log_fault, own_fault, wanting}
 
 -- what was noted of inputs that have ended, and of the log and the output behind so many intermediates
-pub record IsNoted {S T K : Type 0} (stages : ℕ) (xs : List (Input S)) (taker : LoggedOutput T K) (ended : Ended) : Type 0 where
+pub record IsNoted {S T K : Type 0} (stages : ℕ) (xs : List (Input S)) (taker : LoggedOutputs T K) (ended : Ended) : Type 0 where
   pub inputs : ended.inputs.items ≡ map (λ (x : Input S). end_or x.end) xs
   pub log : ended.log ≡ log_fault taker.log
   pub stages_are : ended.stages.items ≡ wanting stages taker.output.fault

@@ -11,7 +11,7 @@ ghost use Rattle.call_spec.specs.Lines.{lines_of};
 ghost use Rattle.call_spec.specs.Plan.{described_parties};
 ghost use Rattle.call_spec.specs.Plan.Plan.{Described};
 ghost use Rattle.call_spec.specs.Status.{run_code};
-ghost use Rattle.logged_output.specs.declared.logged.LoggedOutput.{LoggedOutput};
+ghost use Rattle.logged_outputs.specs.declared.logged.LoggedOutputs.{LoggedOutputs};
 ghost use Rattle.run_input.specs.declared.input.Input.{Input};
 ghost use Rattle.run_lines.specs.declared.ended.Ended.{Ended};
 ghost use Rattle.run_lines.specs.Ended.{ended_code, run_text};
@@ -24,7 +24,7 @@ use message_texts::MessageTexts;
 /// A run of a description with one output came to what a call promises of a run, and what is told of it is what was noted.
 pub fn what_ran_over_a_site_came_to_it<S, T: MessageTexts, K>()
     ensures { (left : S → Option (List Scripted)) (faults : S → ℕ) (held : K → Option (List ℕ)) (sink_faults : K → ℕ)
-        (conf : Conf) (texts : T) (xs : List (Input S)) (taker : LoggedOutput T K) (ended : Ended) (old new : Seen) → length conf.outputs ≡ 1 → AreDistinct (sink_names (described_parties conf))
+        (conf : Conf) (texts : T) (xs : List (Input S)) (taker : LoggedOutputs T K) (ended : Ended) (old new : Seen) → length conf.outputs ≡ 1 → AreDistinct (sink_names (described_parties conf))
         → RanOver left faults T.stands held sink_faults conf texts xs taker old new → IsNoted (length conf.stages) xs taker ended → CameToRun left faults T.stands conf texts ended old new }
 {}
 

@@ -20,7 +20,7 @@ use Rattle.parser_lane.specs.Parsers.{inputs}
 use Rattle.run_input.specs.declared.input.Input.{Input}
 use Rattle.run_input.specs.Inputs.{HasGiven}
 use Rattle.run_input.specs.Standing.{StandsBy}
-use Rattle.logged_output.specs.Entries.{Entry, own}
+use Rattle.logged_outputs.specs.Entries.{Entry, own}
 use Rattle.input_turns.specs.Turns.{InputSoFar}
 use Rattle.run_entries.specs.Came.{InputCameTo, came_of, end_or}
 use Rattle.run_entries.proofs.AlikeLemmas.{items_alike, own_read}

@@ -27,7 +27,7 @@ use Rattle.run_input.specs.Inputs.{CountsAll}
 use Rattle.run_input.specs.Standing.{IsDone, StandsBy}
 use Rattle.run_input.specs.Sums.{both_counts}
 use Rattle.run_input.proofs.SumLemmas.{both_shown}
-use Rattle.logged_output.specs.Entries.{Entry}
+use Rattle.logged_outputs.specs.Entries.{Entry}
 use Rattle.run_entries.specs.Came.{AreEntriesOf, InputCameTo, end_or}
 use Rattle.run_entries.specs.Totals.{sums}
 use Rattle.run_entries.proofs.AlikeLemmas.{counts_alike, own_read}

@@ -20,7 +20,7 @@ use Rattle.input_lane.specs.declared.state.Reading.TheVariants as reading
 use Rattle.run_input.specs.declared.input.Input.{Input}
 use Rattle.run_input.specs.Inputs.{FailsBy, HasGiven, ReadsBy}
 use Rattle.run_input.specs.Standing.{StandsBy}
-use Rattle.logged_output.specs.Entries.{AreKnown, Entry}
+use Rattle.logged_outputs.specs.Entries.{AreKnown, Entry}
 use Rattle.input_turns.specs.Turns.{InputSoFar, SoFar}
 use Rattle.run_entries.specs.Came.{AreEntriesOf, InputCameTo, end_or}
 use Rattle.run_entries.proofs.CameLemmas.{all_came}

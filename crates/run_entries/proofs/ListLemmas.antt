@@ -17,8 +17,8 @@ use Rattle.call_spec.specs.Pairs.{Each}
 use Rattle.call_spec.specs.Came.{InputCame}
 use Rattle.call_spec.specs.Ends.{wants_memory}
 use Rattle.run_input.specs.declared.input.Input.{Input}
-use Rattle.logged_output.specs.Entries.{Entry, order_of, own}
-use Rattle.logged_output.specs.Entries.{AreKnown}
+use Rattle.logged_outputs.specs.Entries.{Entry, order_of, own}
+use Rattle.logged_outputs.specs.Entries.{AreKnown}
 use Rattle.run_entries.specs.Came.{InputCameTo, end_or}
 use Rattle.run_entries.proofs.CameLemmas.{Decoded, decoded_length, input_decoded}
 use Rattle.run_entries.proofs.MergeLemmas.{Begins, times_own, unknown_none}

@@ -7,9 +7,9 @@ use Rattle.std.proofs.lemmas.List.{map-append}
 use Rattle.run_spec.specs.Work.{Item}
 use Rattle.run_spec.specs.Merge.{list_at, times, merged_after, merged}
 use Rattle.run_spec.proofs.MergeLemmas.{times-cons}
-use Rattle.logged_output.specs.Entries.{Entry, items_in, order_of, own}
-use Rattle.logged_output.specs.Entries.{AreKnown}
-use Rattle.logged_output.proofs.EntryLemmas.{own_both}
+use Rattle.logged_outputs.specs.Entries.{Entry, items_in, order_of, own}
+use Rattle.logged_outputs.specs.Entries.{AreKnown}
+use Rattle.logged_outputs.proofs.EntryLemmas.{own_both}
 
 -- a number stands in the order as often as its input has items
 pub times_own : (k : ℕ) (entries : List Entry) → times k (order_of entries) ≡ length (own k entries)

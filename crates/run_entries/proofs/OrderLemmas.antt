@@ -15,7 +15,7 @@ use Rattle.call_spec.specs.Leaves.{IsOrder}
 use Rattle.call_spec.specs.Ends.{wants_memory}
 use Rattle.arrival_spec.specs.declared.event.Scripted.{Scripted}
 use Rattle.run_input.specs.declared.input.Input.{Input}
-use Rattle.logged_output.specs.Entries.{Entry, items_in, order_of}
+use Rattle.logged_outputs.specs.Entries.{Entry, items_in, order_of}
 use Rattle.run_entries.specs.Came.{AreEntriesOf}
 use Rattle.run_entries.proofs.MergeLemmas.{front_begins, merge}
 use Rattle.run_entries.proofs.ListLemmas.{Lists, are_by_input, begins_of, givens, lists_of, partial, whole}

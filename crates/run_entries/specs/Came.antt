@@ -14,7 +14,7 @@ use Rattle.call_spec.specs.Came.{InputCame, RunCame}
 use Rattle.parser_lane.specs.Parsers.{inputs}
 use Rattle.run_input.specs.declared.input.Input.{Input}
 use Rattle.run_input.specs.Inputs.{HasGiven}
-use Rattle.logged_output.specs.Entries.{AreKnown, Entry, own}
+use Rattle.logged_outputs.specs.Entries.{AreKnown, Entry, own}
 
 -- how an input ended: that of a run has
 abbrev pub end_or : Option InputEnd → InputEnd

@@ -15,7 +15,7 @@ ghost use Rattle.call_spec.specs.Leaves.{IsOrder, arrivals_in, given_of};
 ghost use Rattle.call_spec.specs.Pairs.{Each};
 ghost use Rattle.pipeline_message.specs.declared.run_counts.RunCounts.{RunCounts};
 ghost use Rattle.pipeline_message.specs.Shown.{shown_counts};
-ghost use Rattle.logged_output.specs.Entries.{Entry, items_in, order_of};
+ghost use Rattle.logged_outputs.specs.Entries.{Entry, items_in, order_of};
 ghost use Rattle.run_input.specs.declared.input.Input.{Input};
 ghost use Rattle.run_input.specs.Inputs.{CountsAll, HasGiven};
 ghost use Rattle.input_turns.specs.Turns.{SoFar};

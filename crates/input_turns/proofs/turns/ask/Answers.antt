@@ -1,7 +1,7 @@
 use Rattle.std.proofs.Common.{ℕ, inr, sym, subst, []}
-use Rattle.logged_output.specs.Entries.{entries_of}
-use Rattle.logged_output.specs.Logged.{Took}
-use Rattle.logged_output.proofs.EntryLemmas.{takes_none}
+use Rattle.logged_outputs.specs.Entries.{entries_of}
+use Rattle.logged_outputs.specs.Logged.{Took}
+use Rattle.logged_outputs.proofs.EntryLemmas.{takes_none}
 use Rattle.run_input.specs.declared.input.InputAnswer.TheVariants as answer
 use Rattle.run_input.proofs.NextLemmas.{brings_right}
 use Rattle.input_turns.specs.Turns.{InputGives}

@@ -3,8 +3,8 @@ use Rattle.std.proofs.lemmas.Bool.{or_parts}
 use Rattle.std.proofs.lemmas.List.{length-set, take_all}
 use Rattle.std.proofs.lemmas.List.Elements.{All-set}
 use Rattle.run_input.specs.Inputs.{IsRight}
-use Rattle.logged_output.specs.Logged.{Took}
-use Rattle.logged_output.proofs.EntryLemmas.{takes_none}
+use Rattle.logged_outputs.specs.Logged.{Took}
+use Rattle.logged_outputs.proofs.EntryLemmas.{takes_none}
 use Rattle.input_turns.specs.Turns.{HadNothing}
 use Rattle.input_turns.proofs.PlaceLemmas.{all_more_set}
 use Rattle.input_turns.proofs.TurnLemmas.{all_none, turned_one}

@@ -1,6 +1,6 @@
 use Rattle.std.proofs.Common.{All, ◌≡◌, false, length, take}
 use Rattle.run_input.specs.Inputs.{IsRight}
-use Rattle.logged_output.specs.Logged.{Took}
+use Rattle.logged_outputs.specs.Logged.{Took}
 use Rattle.input_turns.specs.Turns.{Follows, HadNothing}
 use Rattle.input_turns.proofs.turns.round.Given as goal
 

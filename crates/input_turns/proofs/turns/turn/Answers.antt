@@ -1,6 +1,6 @@
 use Rattle.std.proofs.Common.{[]}
-use Rattle.logged_output.specs.Logged.{Took}
-use Rattle.logged_output.proofs.EntryLemmas.{takes_none}
+use Rattle.logged_outputs.specs.Logged.{Took}
+use Rattle.logged_outputs.proofs.EntryLemmas.{takes_none}
 use Rattle.input_turns.proofs.TurnLemmas.{gives_none, turned_then}
 use Rattle.input_turns.proofs.turns.turn.Goals as goal
 

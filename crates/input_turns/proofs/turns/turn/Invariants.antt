@@ -1,5 +1,5 @@
 use Rattle.run_input.specs.Inputs.{IsRight}
-use Rattle.logged_output.specs.Logged.{Took}
+use Rattle.logged_outputs.specs.Logged.{Took}
 use Rattle.input_turns.specs.Turns.{Turned}
 use Rattle.input_turns.proofs.turns.turn.Given as goal
 

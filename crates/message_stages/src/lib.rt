@@ -1,0 +1,4 @@
+//! Stub.
+#![tactic(auto)]
+mod stages;
+pub use stages::Stages;
