@@ -29,7 +29,7 @@ fn ask<S: Source, T: MessageTexts, K: Sink>(
 ) -> bool
     requires { IsRight S.left S.faults input.old }
     ensures right { IsRight S.left S.faults input.new }
-    ensures turned { Turned S.left S.faults (Took T.stands K.held K.faults) input.old input.new taker.old taker.new }
+    ensures turned { Turned S.left S.faults (Took T.stands K.held K.total K.faults) input.old input.new taker.old taker.new }
     ensures nothing { result ≡ false → HadNothing S.left S.faults input.new }
 {
     let number = input.number();
@@ -51,7 +51,7 @@ fn turn<S: Source, T: MessageTexts, K: Sink>(
 ) -> bool
     requires { IsRight S.left S.faults input.old }
     ensures right { IsRight S.left S.faults input.new }
-    ensures turned { Turned S.left S.faults (Took T.stands K.held K.faults) input.old input.new taker.old taker.new }
+    ensures turned { Turned S.left S.faults (Took T.stands K.held K.total K.faults) input.old input.new taker.old taker.new }
     ensures nothing { result ≡ false → HadNothing S.left S.faults input.new }
 {
     if input.end().is_some() {
@@ -72,7 +72,7 @@ fn round<S: Source, T: MessageTexts, K: Sink>(
 ) -> bool
     requires { All (IsRight S.left S.faults) inputs.old.items }
     ensures right { All (IsRight S.left S.faults) inputs.new.items }
-    ensures follows { Follows S.left S.faults (Took T.stands K.held K.faults) inputs.old.items inputs.new.items taker.old taker.new }
+    ensures follows { Follows S.left S.faults (Took T.stands K.held K.total K.faults) inputs.old.items inputs.new.items taker.old taker.new }
     ensures nothing { result ≡ false → All (HadNothing S.left S.faults) inputs.new.items }
 {
     let mut came = false;
@@ -105,7 +105,7 @@ pub fn ask_all<R: Wait + Clock, S: Source, T: MessageTexts, K: Sink>(
 )
     requires { All (IsRight S.left S.faults) inputs.old.items }
     ensures ended { list_all (λ x. is_some x.end) inputs.new.items ≡ true }
-    ensures follows { Follows S.left S.faults (Took T.stands K.held K.faults) inputs.old.items inputs.new.items taker.old taker.new }
+    ensures follows { Follows S.left S.faults (Took T.stands K.held K.total K.faults) inputs.old.items inputs.new.items taker.old taker.new }
 {
     for _ in rt.forever() {
         if have_ended(inputs) {

@@ -1,10 +1,10 @@
 // Statuses.
 ghost use Rattle.std.specs.Prelude.{◌≡◌, map, fold, max};
-ghost use Rattle.call_spec.specs.Status.{end_code, fault_code, said_code, stage_code, wanted_code, worst};
+ghost use Rattle.call_spec.specs.Status.{end_code, fault_code, output_code, said_code, stage_code, wanted_code, worst};
 ghost use Rattle.run_lines.specs.Ended.{ended_code};
 
 use crate::ended::Ended;
-use call_spec::InputEnd;
+use call_spec::{InputEnd, OutputFault};
 use site_io::OutsideFault;
 
 /// What an input that ended so gives to the status of a run.
@@ -20,7 +20,7 @@ pub fn end_code(end: InputEnd) -> u8
     }
 }
 
-/// What the log, or an output, gives to it.
+/// What the log gives to it.
 pub fn fault_code(fault: Option<OutsideFault>) -> u8
     ensures { result ≡ fault_code fault }
 {
@@ -28,6 +28,18 @@ pub fn fault_code(fault: Option<OutsideFault>) -> u8
         None => 0,
         Some(OutsideFault::Failed) => 4,
         Some(OutsideFault::NoMemory) => 6,
+    }
+}
+
+/// What an output gives to it.
+fn output_code(fault: Option<OutputFault>) -> u8
+    ensures { result ≡ output_code fault }
+{
+    match fault {
+        None => 0,
+        Some(OutputFault::Failed) => 4,
+        Some(OutputFault::Limit) => 5,
+        Some(OutputFault::NoMemory) => 6,
     }
 }
 
@@ -69,12 +81,12 @@ fn worst_end(ends: &[InputEnd]) -> u8
     most
 }
 
-fn worst_fault(faults: &[Option<OutsideFault>]) -> u8
-    ensures { result ≡ worst (map fault_code faults.now) }
+fn worst_output(faults: &[Option<OutputFault>]) -> u8
+    ensures { result ≡ worst (map output_code faults.now) }
 {
     let mut most = 0;
     for fault in faults {
-        most = fault_code(*fault).max(most);
+        most = output_code(*fault).max(most);
     }
     most
 }
@@ -93,6 +105,6 @@ fn worst_stage(stages: &[bool]) -> u8
 pub fn ended_code(ended: &Ended) -> u8
     ensures { result ≡ ended_code ended.now }
 {
-    let outputs = worst_stage(&ended.stages).max(worst_fault(&ended.outputs));
+    let outputs = worst_stage(&ended.stages).max(worst_output(&ended.outputs));
     worst_end(&ended.inputs).max(fault_code(ended.log).max(outputs))
 }

@@ -1,5 +1,5 @@
 // How a run ended.
-use call_spec::InputEnd;
+use call_spec::{InputEnd, OutputFault};
 use pipeline_message::RunCounts;
 use site_io::OutsideFault;
 
@@ -13,6 +13,6 @@ pub struct Ended {
     /// Whether each intermediate wanted memory.
     pub stages: Vec<bool>,
     /// Why each output ended, if it did.
-    pub outputs: Vec<Option<OutsideFault>>,
+    pub outputs: Vec<Option<OutputFault>>,
     pub counts: RunCounts,
 }

@@ -1,11 +1,11 @@
 // The lines of what ended a run's inputs, log, intermediates and outputs.
 ghost use Rattle.std.specs.Prelude.{◌≡◌, length, map};
-ghost use Rattle.call_spec.specs.Lines.{input_line, log_line, stage_line, sink_line, lines_by};
+ghost use Rattle.call_spec.specs.Lines.{input_line, log_line, output_line, sink_line, stage_line, lines_by};
 ghost use Rattle.run_lines.specs.Ended.{input_name, stage_name, output_name};
 ghost use Rattle.run_lines.specs.Says.{Says};
 
 use crate::saying::{Piece, say_named, say_piece};
-use call_spec::InputEnd;
+use call_spec::{InputEnd, OutputFault};
 use col_base::Text;
 use config_spec::{InputConf, OutputConf, StageConf};
 use site_io::{OutsideFault, Site};
@@ -29,7 +29,24 @@ pub fn say_input<S: Site>(
     }
 }
 
-/// Says the line of an output or of the log that ended so, if it has one.
+/// Says the line of an output that ended so, if it has one.
+pub fn say_output<S: Site>(
+    alloc: Global,
+    name: &[u8],
+    fault: Option<OutputFault>,
+    site: &mut S,
+) -> Result<(), OutsideFault>
+    ensures { Says (S.seen site.old) (S.seen site.new) (output_line name.now fault) result }
+{
+    match fault {
+        None => Ok(()),
+        Some(OutputFault::Failed) => say_named(alloc, Piece::Sink, name, site),
+        Some(OutputFault::Limit) => say_named(alloc, Piece::Limit, name, site),
+        Some(OutputFault::NoMemory) => say_named(alloc, Piece::Wanting, name, site),
+    }
+}
+
+/// Says the line of the log that ended so, if it has one.
 pub fn say_sink<S: Site>(
     alloc: Global,
     name: &[u8],
@@ -98,15 +115,15 @@ fn say_stage_of<S: Site>(
     say_stage(alloc, conf.name.as_str().as_bytes(), wants, site)
 }
 
-fn say_sink_of<S: Site>(
+fn say_output_of<S: Site>(
     alloc: Global,
     conf: &OutputConf,
-    fault: Option<OutsideFault>,
+    fault: Option<OutputFault>,
     site: &mut S,
 ) -> Result<(), OutsideFault>
-    ensures { Says (S.seen site.old) (S.seen site.new) (sink_line (output_name conf.now) fault) result }
+    ensures { Says (S.seen site.old) (S.seen site.new) (output_line (output_name conf.now) fault) result }
 {
-    say_sink(alloc, conf.name.as_str().as_bytes(), fault, site)
+    say_output(alloc, conf.name.as_str().as_bytes(), fault, site)
 }
 
 /// Says the lines of all inputs in order, up to the first that can't be said.
@@ -148,17 +165,17 @@ pub fn say_stages<S: Site>(
 }
 
 /// Says the lines of all outputs in order, up to the first that can't be said.
-pub fn say_sinks<S: Site>(
+pub fn say_outputs<S: Site>(
     alloc: Global,
     confs: &[OutputConf],
-    faults: &[Option<OutsideFault>],
+    faults: &[Option<OutputFault>],
     site: &mut S,
 ) -> Result<(), OutsideFault>
     requires { length faults.now ≡ length confs.now }
-    ensures { Says (S.seen site.old) (S.seen site.new) (lines_by sink_line (map output_name confs.now) faults.now) result }
+    ensures { Says (S.seen site.old) (S.seen site.new) (lines_by output_line (map output_name confs.now) faults.now) result }
 {
     for (i, conf) in confs.iter().enumerate() {
-        match say_sink_of(alloc, conf, faults[i], site) {
+        match say_output_of(alloc, conf, faults[i], site) {
             Ok(()) => {}
             Err(fault) => return Err(fault),
         }

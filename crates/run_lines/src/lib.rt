@@ -15,7 +15,7 @@ mod summary;
 pub use codes::{end_code, ended_code, fault_code, said_code, wanted_code};
 pub use count_row::{CountName, CountRow};
 pub use ended::Ended;
-pub use faults::{say_input, say_log, say_sink};
+pub use faults::{say_input, say_log, say_output, say_sink};
 pub use run::{report_run, say_run};
 pub use saying::{Piece, elements_head, named_line, say, say_named, say_piece};
 pub use summary::say_summary;

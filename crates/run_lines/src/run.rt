@@ -1,14 +1,14 @@
 // What is said of a whole run, and its status.
 ghost use Rattle.std.specs.Prelude.{◌≡◌, ◌++◌, length, map, max, Result};
 ghost use Rattle.site_io.specs.declared.outside.OutsideFault.{OutsideFault};
-ghost use Rattle.call_spec.specs.Lines.{log_line, stage_line, sink_line, lines_by};
+ghost use Rattle.call_spec.specs.Lines.{log_line, stage_line, output_line, lines_by};
 ghost use Rattle.call_spec.specs.Status.{said_code};
 ghost use Rattle.run_lines.specs.Ended.{ended_code, fault_text, output_name, run_text, stage_name};
 ghost use Rattle.run_lines.specs.Says.{Says};
 
 use crate::codes::{ended_code, said_code};
 use crate::ended::Ended;
-use crate::faults::{say_inputs, say_log, say_sinks, say_stages};
+use crate::faults::{say_inputs, say_log, say_outputs, say_stages};
 use crate::summary::say_summary;
 use config_spec::Conf;
 use site_io::{OutsideFault, Site};
@@ -23,10 +23,10 @@ fn say_behind_log<S: Site>(
 ) -> Result<(), OutsideFault>
     requires stages { length ended.now.stages.items ≡ length conf.now.stages }
     requires outputs { length ended.now.outputs.items ≡ length conf.now.outputs }
-    ensures { Says (S.seen site.old) (S.seen site.new) (lines_by stage_line (map stage_name conf.now.stages) ended.now.stages.items ++ lines_by sink_line (map output_name conf.now.outputs) ended.now.outputs.items) result }
+    ensures { Says (S.seen site.old) (S.seen site.new) (lines_by stage_line (map stage_name conf.now.stages) ended.now.stages.items ++ lines_by output_line (map output_name conf.now.outputs) ended.now.outputs.items) result }
 {
     match say_stages(alloc, conf.stages.as_slice(), ended.stages.as_slice(), site) {
-        Ok(()) => say_sinks(
+        Ok(()) => say_outputs(
             alloc,
             conf.outputs.as_slice(),
             ended.outputs.as_slice(),
@@ -45,7 +45,7 @@ fn say_behind_inputs<S: Site>(
 ) -> Result<(), OutsideFault>
     requires stages { length ended.now.stages.items ≡ length conf.now.stages }
     requires outputs { length ended.now.outputs.items ≡ length conf.now.outputs }
-    ensures { Says (S.seen site.old) (S.seen site.new) (log_line conf.now.order_log ended.now.log ++ (lines_by stage_line (map stage_name conf.now.stages) ended.now.stages.items ++ lines_by sink_line (map output_name conf.now.outputs) ended.now.outputs.items)) result }
+    ensures { Says (S.seen site.old) (S.seen site.new) (log_line conf.now.order_log ended.now.log ++ (lines_by stage_line (map stage_name conf.now.stages) ended.now.stages.items ++ lines_by output_line (map output_name conf.now.outputs) ended.now.outputs.items)) result }
 {
     match say_log(alloc, &conf.order_log, ended.log, site) {
         Ok(()) => say_behind_log(alloc, conf, ended, site),

@@ -20,13 +20,13 @@ returns-in-Message-clause-turned g c = (
 )
 
 pub returns-in-Nothing-clause-turned : goal.returns-in-Nothing-clause-turned
-returns-in-Nothing-clause-turned g c = ([], nothing_came g.S.Source.left g.S.Source.faults c.args.input.now c.next.new.self c.in-Nothing.ensures.brings, takes_none (Took g.T.MessageTexts.stands g.K.Sink.held g.K.Sink.faults) c.args.taker.now)
+returns-in-Nothing-clause-turned g c = ([], nothing_came g.S.Source.left g.S.Source.faults c.args.input.now c.next.new.self c.in-Nothing.ensures.brings, takes_none (Took g.T.MessageTexts.stands g.K.Sink.held g.K.Sink.total g.K.Sink.faults) c.args.taker.now)
 
 pub returns-in-NotYet-clause-turned : goal.returns-in-NotYet-clause-turned
-returns-in-NotYet-clause-turned g c = ([], not_yet_came g.S.Source.left g.S.Source.faults c.args.input.now c.next.new.self c.in-NotYet.ensures.brings, takes_none (Took g.T.MessageTexts.stands g.K.Sink.held g.K.Sink.faults) c.args.taker.now)
+returns-in-NotYet-clause-turned g c = ([], not_yet_came g.S.Source.left g.S.Source.faults c.args.input.now c.next.new.self c.in-NotYet.ensures.brings, takes_none (Took g.T.MessageTexts.stands g.K.Sink.held g.K.Sink.total g.K.Sink.faults) c.args.taker.now)
 
 pub returns-in-Ended-clause-turned : goal.returns-in-Ended-clause-turned
-returns-in-Ended-clause-turned g c = ([], end_came g.S.Source.left g.S.Source.faults c.args.input.now c.next.new.self c.in-Ended.ensures.brings, takes_none (Took g.T.MessageTexts.stands g.K.Sink.held g.K.Sink.faults) c.args.taker.now)
+returns-in-Ended-clause-turned g c = ([], end_came g.S.Source.left g.S.Source.faults c.args.input.now c.next.new.self c.in-Ended.ensures.brings, takes_none (Took g.T.MessageTexts.stands g.K.Sink.held g.K.Sink.total g.K.Sink.faults) c.args.taker.now)
 
 pub returns-in-Message-clause-right : goal.returns-in-Message-clause-right
 returns-in-Message-clause-right g c = brings_right g.S.Source.left g.S.Source.faults c.args.input.now c.next.new.self (answer.Message c.in-Message.message) c.requires c.in-Message.ensures.brings

@@ -1,5 +1,5 @@
 use Rattle.std.proofs.Common.{map, ◌++◌}
-use Rattle.call_spec.specs.Lines.{input_line, log_line, stage_line, sink_line, lines_by}
+use Rattle.call_spec.specs.Lines.{input_line, log_line, stage_line, output_line, lines_by}
 use Rattle.run_lines.specs.Ended.{input_name, stage_name, output_name}
 use Rattle.run_lines.proofs.SayLemmas.{says_then, says_stop}
 use Rattle.run_lines.proofs.run.say_faults.Goals as goal
@@ -8,10 +8,10 @@ pub returns-in-Ok : goal.returns-in-Ok
 returns-in-Ok g c =
     let first = rw c.as_slice.ensures at (rw c.as_slice-2.ensures.value at c.in-Ok.ensures) in
     says_then (g.S.Site.seen c.args.site.now) (g.S.Site.seen c.say_inputs.new.site) (g.S.Site.seen c.say_behind_inputs.new.site) (lines_by input_line (map input_name c.args.conf.now.inputs) c.args.ended.now.inputs.items)
-    (log_line c.args.conf.now.order_log c.args.ended.now.log ++ (lines_by stage_line (map stage_name c.args.conf.now.stages) c.args.ended.now.stages.items ++ lines_by sink_line (map output_name c.args.conf.now.outputs) c.args.ended.now.outputs.items)) c.say_behind_inputs.result first c.say_behind_inputs.ensures
+    (log_line c.args.conf.now.order_log c.args.ended.now.log ++ (lines_by stage_line (map stage_name c.args.conf.now.stages) c.args.ended.now.stages.items ++ lines_by output_line (map output_name c.args.conf.now.outputs) c.args.ended.now.outputs.items)) c.say_behind_inputs.result first c.say_behind_inputs.ensures
 
 pub returns-in-Err : goal.returns-in-Err
 returns-in-Err g c =
     let first = rw c.as_slice.ensures at (rw c.as_slice-2.ensures.value at c.in-Err.ensures) in
     says_stop (g.S.Site.seen c.args.site.now) (g.S.Site.seen c.say_inputs.new.site) (lines_by input_line (map input_name c.args.conf.now.inputs) c.args.ended.now.inputs.items)
-    (log_line c.args.conf.now.order_log c.args.ended.now.log ++ (lines_by stage_line (map stage_name c.args.conf.now.stages) c.args.ended.now.stages.items ++ lines_by sink_line (map output_name c.args.conf.now.outputs) c.args.ended.now.outputs.items)) c.in-Err.fault first
+    (log_line c.args.conf.now.order_log c.args.ended.now.log ++ (lines_by stage_line (map stage_name c.args.conf.now.stages) c.args.ended.now.stages.items ++ lines_by output_line (map output_name c.args.conf.now.outputs) c.args.ended.now.outputs.items)) c.in-Err.fault first
