@@ -1,7 +1,6 @@
 // The order log and the output of a run.
 ghost use Rattle.std.specs.Prelude.{◌≡◌, IsSome};
-ghost use Rattle.pipeline_message.specs.Items.{item_of};
-ghost use Rattle.message_texts.specs.Puts.{IsSoundMessage};
+ghost use Rattle.pipeline_message.specs.Items.{item_of, IsSoundMessage};
 ghost use Rattle.logged_output.specs.Entries.{Takes, entries_of};
 ghost use Rattle.logged_output.specs.Logged.{Took};
 ghost use Rattle.logged_output.specs.Logs.{EntersLog, goes_on};

@@ -1,6 +1,6 @@
 // An output over its sink.
 ghost use Rattle.std.specs.Prelude.{◌≡◌, None};
-ghost use Rattle.message_texts.specs.Puts.{IsSoundMessage};
+ghost use Rattle.pipeline_message.specs.Items.{IsSoundMessage};
 ghost use Rattle.logged_output.specs.Outputs.{PutsMessage, Wrote, fault_by};
 
 use message_texts::{MessageTexts, TextFault};

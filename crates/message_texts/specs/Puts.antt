@@ -5,17 +5,9 @@ use Rattle.text_spec.specs.declared.element.Element.{Element}
 use Rattle.run_spec.specs.Work.{Item}
 use Rattle.result_spec.specs.Result.{result_text}
 use Rattle.pipeline_message.specs.declared.message.Msg.{Msg}
-use Rattle.pipeline_message.specs.declared.message.Msg.TheVariants.{SessionMsg, DataMsg, Periodic, Terminate}
-use Rattle.pipeline_message.specs.Items.{items_of, IsSound}
+use Rattle.pipeline_message.specs.Items.{items_of}
 use Rattle.message_texts.specs.declared.texts.TextFault.{TextFault}
 use Rattle.message_texts.specs.declared.texts.TextFault.TheVariants as fault
-
--- the sets of a message, if it has any, have records at their places
-abbrev pub IsSoundMessage : Msg → Type 0
-IsSoundMessage (SessionMsg note) = ⊤
-IsSoundMessage (DataMsg m) = IsSound m.value
-IsSoundMessage (Periodic input seconds) = ⊤
-IsSoundMessage Terminate = ⊤
 
 module _ {T : Type 0} (stands : Conf → List Element → ℕ → List Item → T → Type 0) where
   -- whatever items came before, those of one message more came, and the text of the output grew by its own

@@ -3,7 +3,8 @@ ghost use Rattle.std.specs.Prelude.{◌≡◌, ℕ, List, OnOk, OnErr, IfErr};
 ghost use Rattle.config_spec.specs.declared.conf.Conf.{Conf};
 ghost use Rattle.text_spec.specs.declared.element.Element.{Element};
 ghost use Rattle.run_spec.specs.Work.{Item};
-ghost use Rattle.message_texts.specs.Puts.{IsSoundMessage, Keeps, NamesStage, Puts};
+ghost use Rattle.pipeline_message.specs.Items.{IsSoundMessage};
+ghost use Rattle.message_texts.specs.Puts.{Keeps, NamesStage, Puts};
 
 use pipeline_message::Msg;
 

@@ -29,7 +29,7 @@ use Rattle.pipeline_message.specs.declared.message.DataSet.{DataSet}
 use Rattle.pipeline_message.specs.declared.message.Msg.{Msg}
 use Rattle.pipeline_message.specs.declared.message.Msg.TheVariants.{SessionMsg, DataMsg, Terminate}
 use Rattle.pipeline_message.specs.declared.message.Msg.TheVariants.{Periodic as PeriodicMsg}
-use Rattle.pipeline_message.specs.Items.{item_of, set_of}
+use Rattle.pipeline_message.specs.Items.{item_of, set_of, IsSoundMessage}
 use Rattle.pipeline_message.specs.Shown.{shown_counts}
 use Rattle.session_table.specs.declared.arrival.Arrival as given
 use Rattle.session_table.specs.declared.arrival.Arrival.TheVariants as gives
@@ -41,7 +41,7 @@ use Rattle.session_domains.specs.declared.fate.Fate.TheVariants.{Crowded, Late, 
 use Rattle.session_domains.specs.Session.{due_later, StandsAt, StandFor, FateOf, Takes}
 use Rattle.parser_lane.specs.declared.open_sessions.OpenSessions.{OpenSessions}
 use Rattle.parser_lane.specs.declared.parser.Parser.{Parser}
-use Rattle.parser_lane.specs.Parsers.{MayCome, HasSession, inputs, numbers_due, SessionAt, IsFresh, Stands, CanCome, IsSoundMsg, HasOctets, IsMadeOf, GivesItem, WorksBy, counts_by, malformed_by, sets_in}
+use Rattle.parser_lane.specs.Parsers.{MayCome, HasSession, inputs, numbers_due, SessionAt, IsFresh, Stands, CanCome, HasOctets, IsMadeOf, GivesItem, WorksBy, counts_by, malformed_by, sets_in}
 use Rattle.parser_lane.proofs.KeyLemmas.{open_more, same_turned, other_key, opened_later, unopened_before, open_here, open_away, close_here, close_away}
 use Rattle.parser_lane.proofs.CountLemmas.{counts_more, add_nothing, add_malformed, add_late, add_crowded, add_taken, taken_adds, judged_work}
 
@@ -120,7 +120,7 @@ none_counted : (settings : Settings) (read : List ReadArrival) (r : ReadArrival)
 none_counted settings read r e = sym (ap shown_counts (counts_more settings read r nothing_counted e) ∙ add_nothing (counts (inputs settings) [] (works_of (inputs settings) read)))
 
 -- seconds
-pub tick_worked : (input seconds : ℕ) (p : OpenSessions) (msg : Msg) → item_of msg ≡ Some (Tick input seconds) → IsSoundMsg msg → WorksBy (Some (Periodic input seconds)) p p msg
+pub tick_worked : (input seconds : ℕ) (p : OpenSessions) (msg : Msg) → item_of msg ≡ Some (Tick input seconds) → IsSoundMessage msg → WorksBy (Some (Periodic input seconds)) p p msg
 tick_worked input seconds p msg item sound = (
   Periodic input seconds,
   refl,
@@ -137,7 +137,7 @@ tick_worked input seconds p msg item sound = (
     periodic_open read input seconds key = ap (has_key key) (open_more read (Periodic input seconds))
 
 -- a session opens
-pub open_worked : (key : SessionKey) (transport : Transport) (old new : OpenSessions) (fresh : Domains) (msg : Msg) → item_of msg ≡ Some (Note key transport true) → IsSoundMsg msg → new.transport ≡ old.transport → new.life ≡ old.life → new.counts ≡ old.counts
+pub open_worked : (key : SessionKey) (transport : Transport) (old new : OpenSessions) (fresh : Domains) (msg : Msg) → item_of msg ≡ Some (Note key transport true) → IsSoundMessage msg → new.transport ≡ old.transport → new.life ≡ old.life → new.counts ≡ old.counts
     → ((k : SessionKey) → get same_key new.rows k ≡ cond (same_key key k) (Some fresh) (get same_key old.rows k))
     → ((settings : Settings) → old.transport ≡ settings.transport → old.life ≡ settings.life → StandFor settings [] (λ domain. None) fresh) → WorksBy (Some (SessionOpen key transport)) old new msg
 open_worked key transport old new fresh msg item sound same_transport same_life same_counts updates begins = (
@@ -167,7 +167,7 @@ open_worked key transport old new fresh msg item sound same_transport same_life 
     at settings read s come k false e = still settings read (SessionOpen key transport) k (get same_key old.rows k) (quiet refl (λ domain x. refl)) (open_away read key k transport (same_turned key k e)) (s.each k)
 
 -- a session closes
-pub close_worked : (key : SessionKey) (old new : OpenSessions) (msg : Msg) → item_of msg ≡ Some (Note key old.transport false) → IsSoundMsg msg → new.transport ≡ old.transport → new.life ≡ old.life → new.counts ≡ old.counts
+pub close_worked : (key : SessionKey) (old new : OpenSessions) (msg : Msg) → item_of msg ≡ Some (Note key old.transport false) → IsSoundMessage msg → new.transport ≡ old.transport → new.life ≡ old.life → new.counts ≡ old.counts
     → ((k : SessionKey) → get same_key new.rows k ≡ cond (same_key key k) None (get same_key old.rows k)) → WorksBy (Some (SessionClose key)) old new msg
 close_worked key old new msg item sound same_transport same_life same_counts updates = (
   SessionClose key,
@@ -192,7 +192,7 @@ raw_open : (read : List ReadArrival) (k key : SessionKey) (m : Result Message Ma
 raw_open read k key m = ap (has_key key) (open_more read (Raw k m))
 
 -- a message that is made of sound sets is sound
-sound_made : (octets : List ℕ) (sets : List DataSet) (msg : Msg) → IsMadeOf octets sets msg → AreSound octets sets → IsSoundMsg msg
+sound_made : (octets : List ℕ) (sets : List DataSet) (msg : Msg) → IsMadeOf octets sets msg → AreSound octets sets → IsSoundMessage msg
 sound_made octets sets (SessionMsg note) made sound = absurd made
 sound_made octets sets (DataMsg m) made sound = subst (λ l. AreSound l m.value.sets.items) (sym made.0) (subst (AreSound octets) (sym made.1) sound)
 sound_made octets sets (PeriodicMsg input seconds) made sound = absurd made

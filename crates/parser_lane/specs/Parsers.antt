@@ -19,7 +19,7 @@ use Rattle.pipeline_message.specs.declared.message.Msg.{Msg}
 use Rattle.pipeline_message.specs.declared.message.Msg.TheVariants.{SessionMsg, DataMsg, Terminate}
 use Rattle.pipeline_message.specs.declared.message.Msg.TheVariants.{Periodic as PeriodicMsg}
 use Rattle.pipeline_message.specs.declared.run_counts.RunCounts.{RunCounts}
-use Rattle.pipeline_message.specs.Items.{item_of, IsSound}
+use Rattle.pipeline_message.specs.Items.{item_of, IsSoundMessage}
 use Rattle.pipeline_message.specs.Shown.{adds, shown_counts}
 use Rattle.session_domains.specs.declared.domains.Domains.{Domains}
 use Rattle.session_domains.specs.declared.fate.Fate.{Fate}
@@ -73,14 +73,6 @@ abbrev pub CanCome : List ReadArrival → Option (Arrival (List ℕ)) → Type 0
 CanCome read None = Unit {0}
 CanCome read (Some a) = fits_behind (opened_keys read) (open_keys read) a ≡ true
 
--- each set of a data message has a place, each place lies within the octets of the message, and one record of the set's
--- definition stands there
-abbrev pub IsSoundMsg : Msg → Type 0
-IsSoundMsg (SessionMsg note) = ⊤
-IsSoundMsg (DataMsg m) = IsSound m.value
-IsSoundMsg (PeriodicMsg input seconds) = ⊤
-IsSoundMsg Terminate = ⊤
-
 -- a data message with these octets
 abbrev pub HasOctets : List ℕ → Msg → Type 0
 HasOctets octets (SessionMsg note) = ⊥
@@ -99,7 +91,7 @@ HandsOn (Periodic input seconds) msg = ⊤
 -- stands for one arrival more
 pub record GivesItem (settings : Settings) (read : List ReadArrival) (a : Arrival (List ℕ)) (r : ReadArrival) (new : OpenSessions) (msg : Msg) : Type 0 where
   pub item : item_of msg ≡ Some (item_given (inputs settings) (work_of (inputs settings) read r))
-  pub sound : IsSoundMsg msg
+  pub sound : IsSoundMessage msg
   pub octets : HandsOn a msg
   pub stands : Stands settings (read ++ r ∷ []) new
 

@@ -1,5 +1,5 @@
 -- What messages between stages stand for: items, whose records stand at places of the octets.
-use Rattle.std.specs.Prelude.{ℕ, ◌≡◌, ◌≢◌, ◌≤◌, ◌+◌, Bool, true, false, List, [], ◌∷◌, Option, Some, None, map, take, drop, length}
+use Rattle.std.specs.Prelude.{ℕ, ◌≡◌, ◌≢◌, ◌≤◌, ◌+◌, ⊤, Bool, true, false, List, [], ◌∷◌, Option, Some, None, map, take, drop, length}
 use Rattle.std.specs.List.{AllByRecursion, filter_map}
 use Rattle.wire_spec.specs.declared.field.FieldSpec.{FieldSpec}
 use Rattle.wire_spec.specs.Record.{IsSomeRecord}
@@ -49,3 +49,10 @@ IsSoundSet octets s = (s.places.items ≢ []) × AllByRecursion (IsRecordAt s.de
 
 abbrev pub IsSound : DataMessage → Type 0
 IsSound m = AllByRecursion (IsSoundSet m.octets.value) m.sets.items
+
+-- a data message is sound
+abbrev pub IsSoundMessage : Msg → Type 0
+IsSoundMessage (SessionMsg note) = ⊤
+IsSoundMessage (DataMsg m) = IsSound m.value
+IsSoundMessage (Periodic input seconds) = ⊤
+IsSoundMessage Terminate = ⊤

@@ -2,11 +2,10 @@
 use Rattle.std.proofs.Common.{◌≡◌, Bool, true, false, Option, Some, None, refl, sym, subst, ◌∙◌}
 use Rattle.std.specs.Prelude.{MatchOption}
 use Rattle.pipeline_message.specs.declared.message.Msg.{Msg}
-use Rattle.pipeline_message.specs.declared.message.Msg.TheVariants.{SessionMsg, DataMsg, Periodic, Terminate}
-use Rattle.message_texts.specs.Puts.{IsSoundMessage}
+use Rattle.pipeline_message.specs.Items.{IsSoundMessage}
 use Rattle.session_table.specs.declared.arrival.Arrival.{Arrival as Arrived}
 use Rattle.parser_lane.specs.declared.parser.Parser.{Parser}
-use Rattle.parser_lane.specs.Parsers.{CanCome, IsSoundMsg, MayCome, Works, WorksBy, arrival_of}
+use Rattle.parser_lane.specs.Parsers.{CanCome, MayCome, Works, WorksBy, arrival_of}
 use Rattle.run_input.specs.declared.work.Worked.TheVariants as worked
 use Rattle.run_input.specs.Standing.{WorksOff}
 use Rattle.run_input.proofs.FrontLemmas.{Given}
@@ -23,16 +22,10 @@ pub works_wanted : (o : Option Given) (b : Bool) (p q : Parser) → MatchOption 
 works_wanted None b p q m is = absurd (let wrong : true ≡ false = sym m ∙ is in cc)
 works_wanted (Some a) b p q m is = tt
 
-sound_same : (msg : Msg) → IsSoundMsg msg → IsSoundMessage msg
-sound_same (SessionMsg note) s = s
-sound_same (DataMsg m) s = s
-sound_same (Periodic input seconds) s = s
-sound_same Terminate s = s
-
 -- what a parser makes of an arrival that may come is sound
 pub sound_message : (arrival : Arrived) (p q : Parser) (msg : Msg) → MayCome arrival p → p.wanting ≡ false → Works arrival p.sessions q.sessions msg → IsSoundMessage msg
 sound_message arrival p q msg may working w = by_arrival (arrival_of arrival) may.comes w
   where
     by_arrival : (o : Option Given) → CanCome may.read o → WorksBy o p.sessions q.sessions msg → IsSoundMessage msg
     by_arrival None c w = subst IsSoundMessage (sym w.0) tt
-    by_arrival (Some a) c w = sound_same msg (w.2 may.settings may.read (may.stands working) c).sound
+    by_arrival (Some a) c w = (w.2 may.settings may.read (may.stands working) c).sound

@@ -13,9 +13,8 @@ use Rattle.call_spec.specs.Counts.{MovesBy}
 use Rattle.call_spec.specs.declared.end.InputEnd.{InputEnd}
 use Rattle.call_spec.specs.Ends.{TakenFrom, IsNothingLeft, IsFull, IsWithin, HasRoom}
 use Rattle.pipeline_message.specs.declared.run_counts.RunCounts.{RunCounts}
-use Rattle.pipeline_message.specs.Items.{item_of}
+use Rattle.pipeline_message.specs.Items.{item_of, IsSoundMessage}
 use Rattle.pipeline_message.specs.Shown.{shown_counts}
-use Rattle.message_texts.specs.Puts.{IsSoundMessage}
 use Rattle.input_lane.specs.declared.state.Reading.{Reading}
 use Rattle.input_lane.specs.declared.state.Reading.TheVariants as reading
 use Rattle.input_lane.specs.Inlets.{Asked, Asks, and_given}

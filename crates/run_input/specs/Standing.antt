@@ -11,7 +11,7 @@ use Rattle.call_spec.specs.declared.end.InputEnd.{InputEnd}
 use Rattle.call_spec.specs.declared.end.InputEnd.TheVariants as end
 use Rattle.pipeline_message.specs.declared.lane_fault.LaneFault.{LaneFault}
 use Rattle.pipeline_message.specs.declared.lane_fault.LaneFault.TheVariants as fault
-use Rattle.pipeline_message.specs.Items.{item_of}
+use Rattle.pipeline_message.specs.Items.{item_of, IsSoundMessage}
 use Rattle.pipeline_message.specs.Shown.{shown_counts}
 use Rattle.input_lane.specs.declared.state.Lane.{Lane}
 use Rattle.input_lane.specs.declared.state.Reading.TheVariants as reading
@@ -19,7 +19,6 @@ use Rattle.input_lane.specs.Inlets.{GoesOn}
 use Rattle.input_lane.specs.Tallies.{CountsMarks}
 use Rattle.parser_lane.specs.declared.parser.Parser.{Parser}
 use Rattle.parser_lane.specs.Parsers.{CanCome, inputs, Stands as ParserStands}
-use Rattle.message_texts.specs.Puts.{IsSoundMessage}
 use Rattle.run_input.specs.declared.work.Worked.{Worked}
 use Rattle.run_input.specs.declared.work.Worked.TheVariants as worked
 

@@ -29,8 +29,7 @@ use Rattle.pipeline_message.specs.declared.message.DataMessage.{DataMessage}
 use Rattle.pipeline_message.specs.declared.message.SessionNote.{SessionNote}
 use Rattle.pipeline_message.specs.declared.message.Msg.{Msg}
 use Rattle.pipeline_message.specs.declared.message.Msg.TheVariants.{SessionMsg, DataMsg, Periodic, Terminate}
-use Rattle.pipeline_message.specs.Items.{items_of, record_at, set_of, IsSoundSet, IsSound}
-use Rattle.message_texts.specs.Puts.{IsSoundMessage}
+use Rattle.pipeline_message.specs.Items.{items_of, record_at, set_of, IsSoundSet, IsSound, IsSoundMessage}
 use Rattle.stage_chain.specs.Behind.{sets_behind, works_of}
 use Rattle.stage_chain.proofs.BehindLemmas.{message_behind, not_zero}
 use Rattle.text_forms.specs.declared.kind.TextKind.{TextKind}

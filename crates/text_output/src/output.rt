@@ -3,8 +3,7 @@ ghost use Rattle.std.specs.Prelude.{◌≡◌, ◌++◌, [], Bool, List, IfErr, 
 ghost use Rattle.std.specs.List.{AllByRecursion};
 ghost use Rattle.config_spec.specs.Form.{IsStage};
 ghost use Rattle.text_spec.specs.View.{message_line};
-ghost use Rattle.pipeline_message.specs.Items.{IsSound};
-ghost use Rattle.message_texts.specs.Puts.{IsSoundMessage};
+ghost use Rattle.pipeline_message.specs.Items.{IsSound, IsSoundMessage};
 ghost use Rattle.stage_chain.specs.Behind.{works_of};
 ghost use Rattle.text_forms.specs.Fault.{NamesOneOf};
 
