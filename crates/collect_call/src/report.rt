@@ -1,4 +1,4 @@
-// The line and the status of a description that isn't run.
+// The line and the status of a description that could not be opened.
 ghost use Rattle.std.specs.Prelude.{◌≡◌};
 ghost use Rattle.call_spec.specs.Lines.{refusal_line};
 ghost use Rattle.call_spec.specs.Plan.{described_parties};
@@ -6,12 +6,11 @@ ghost use Rattle.call_spec.specs.Status.{refusal_code};
 ghost use Rattle.run_lines.specs.Says.{Says};
 ghost use Rattle.described_texts.specs.Reports.{ReportsRefusal};
 ghost use Rattle.site_openings.specs.All as opening;
-ghost use Rattle.collect_call.specs.Unrun.{refusal_of, source_line, output_line};
+ghost use Rattle.collect_call.specs.Unopened.{source_line, output_line};
 
-use crate::unrun::Unrun;
-use call_spec::InputEnd;
+use call_spec::{InputEnd, OutputFault};
 use config_spec::{Conf, InputConf, OutputConf};
-use run_lines::{Piece, say_input, say_piece, say_sink, wanted_code};
+use run_lines::{Piece, say_input, say_output as say_output_end, say_piece, say_sink, wanted_code};
 use site_io::{OutsideFault, Site};
 use site_openings::Unopened;
 use std::alloc::Global;
@@ -44,7 +43,7 @@ fn say_output<S: Site>(
 {
     if index < outputs.len() {
         let name = outputs[index].name.as_str().as_bytes();
-        say_sink(alloc, name, Some(OutsideFault::Failed), site)
+        say_output_end(alloc, name, Some(OutputFault::Failed), site)
     } else {
         Ok(())
     }
@@ -67,37 +66,26 @@ fn say_unopened<S: Site>(
     }
 }
 
-/// Says why a description isn't run.
-fn say_unrun<S: Site>(
+fn unopened_code(unopened: Unopened) -> u8
+    ensures { result ≡ refusal_code (opening.refusal_of unopened) }
+{
+    match unopened {
+        Unopened::Source(_) => 3,
+        Unopened::Log | Unopened::Output(_) => 4,
+        Unopened::Memory => 6,
+    }
+}
+
+/// Says why a description isn't run, and answers the status: 3 for a source, 4 for a sink, and 6 where memory was wanted, for
+/// the line too. A line that can't be said changes none of them.
+pub fn report_unopened<S: Site>(
     alloc: Global,
     conf: &Conf,
-    unrun: Unrun,
+    unopened: Unopened,
     site: &mut S,
-) -> Result<(), OutsideFault>
-    ensures { Says (S.seen site.old) (S.seen site.new) (refusal_line (described_parties conf.now) (refusal_of unrun)) result }
+) -> u8
+    ensures { ReportsRefusal (described_parties conf.now) (opening.refusal_of unopened) (S.seen site.old) (S.seen site.new) result }
 {
-    match unrun {
-        Unrun::NotBuilt => say_piece(Piece::NotBuilt, site),
-        Unrun::Unopened(unopened) => say_unopened(alloc, conf, unopened, site),
-    }
-}
-
-fn unrun_code(unrun: Unrun) -> u8
-    ensures { result ≡ refusal_code (refusal_of unrun) }
-{
-    match unrun {
-        Unrun::NotBuilt => 2,
-        Unrun::Unopened(Unopened::Source(_)) => 3,
-        Unrun::Unopened(Unopened::Log) | Unrun::Unopened(Unopened::Output(_)) => 4,
-        Unrun::Unopened(Unopened::Memory) => 6,
-    }
-}
-
-/// Says why a description isn't run, and answers the status: 2 where it isn't built yet, 3 for a source, 4 for a sink, and 6
-/// where memory was wanted, for the line too. A line that can't be said changes none of them.
-pub fn report_unrun<S: Site>(alloc: Global, conf: &Conf, unrun: Unrun, site: &mut S) -> u8
-    ensures { ReportsRefusal (described_parties conf.now) (refusal_of unrun) (S.seen site.old) (S.seen site.new) result }
-{
-    let said = say_unrun(alloc, conf, unrun, site);
-    unrun_code(unrun).max(wanted_code(said))
+    let said = say_unopened(alloc, conf, unopened, site);
+    unopened_code(unopened).max(wanted_code(said))
 }

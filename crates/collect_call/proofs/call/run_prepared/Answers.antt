@@ -15,10 +15,10 @@ run_described-requires-clause-few g c κs within = let few = (keep_form c.requir
 pub returns-in-Ok : goal.returns-in-Ok
 returns-in-Ok g c = λ rows p.
     (let ran = c.in-Ok.ensures.ran in
-    calls_ran g.S.Src.Source.left g.S.Src.Source.faults c.args.conf.now rows ran.0 c.in-Ok.ended (g.S.Site.seen c.args.site.now) (g.S.Site.seen c.run_described.new.site) (g.S.Site.seen c.report_run.new.site) c.report_run.result p.built ran.1 (ran.3 rows p.makes) ran.2
+    calls_ran g.S.Src.Source.left g.S.Src.Source.faults c.args.conf.now rows ran.0 c.in-Ok.ended (g.S.Site.seen c.args.site.now) (g.S.Site.seen c.run_described.new.site) (g.S.Site.seen c.report_run.new.site) c.report_run.result ran.1 (ran.3 rows p.makes) ran.2
     c.report_run.ensures)
 
 pub returns : goal.returns
 returns g c = λ rows p.
-    calls_unopened g.S.Src.Source.left g.S.Src.Source.faults c.args.conf.now rows c.in-Err.unopened (g.S.Site.seen c.args.site.now) (g.S.Site.seen c.run_described.new.site) (g.S.Site.seen c.report_unrun.new.site) c.report_unrun.result p.built c.in-Err.ensures.refused
-    c.report_unrun.ensures
+    calls_unopened g.S.Src.Source.left g.S.Src.Source.faults c.args.conf.now rows c.in-Err.unopened (g.S.Site.seen c.args.site.now) (g.S.Site.seen c.run_described.new.site) (g.S.Site.seen c.report_unopened.new.site) c.report_unopened.result c.in-Err.ensures.refused
+    c.report_unopened.ensures

@@ -1,6 +1,6 @@
 use Rattle.std.proofs.Common.{ℕ, List, Some, ap, subst, ◌∙◌}
-use Rattle.site_io.specs.declared.outside.OutsideFault.TheVariants as fault
-use Rattle.call_spec.specs.Lines.{sink_line}
+use Rattle.call_spec.specs.declared.end.OutputFault.TheVariants as fault
+use Rattle.call_spec.specs.Lines.{output_line}
 use Rattle.call_spec.specs.Plan.{output_party}
 use Rattle.run_lines.specs.Says.{Says}
 use Rattle.collect_call.proofs.LineLemmas.{line_at}
@@ -8,6 +8,6 @@ use Rattle.collect_call.proofs.report.say_output.Goals as goal
 
 pub returns-then-index-outputs : goal.returns-then-index-outputs
 returns-then-index-outputs g c =
-    subst (λ (l : List ℕ). Says (g.S.Site.seen c.args.site.now) (g.S.Site.seen c.say_sink.new.site) l c.say_sink.result)
-    (ap (λ name. sink_line name (Some fault.Failed)) (c.as_bytes-name.ensures.value ∙ c.as_str.ensures)
-    ∙ line_at output_party (λ name. sink_line name (Some fault.Failed)) c.args.outputs.now c.args.index _ c.if-index-outputs.true) c.say_sink.ensures
+    subst (λ (l : List ℕ). Says (g.S.Site.seen c.args.site.now) (g.S.Site.seen c.say_output_end.new.site) l c.say_output_end.result)
+    (ap (λ name. output_line name (Some fault.Failed)) (c.as_bytes-name.ensures.value ∙ c.as_str.ensures)
+    ∙ line_at output_party (λ name. output_line name (Some fault.Failed)) c.args.outputs.now c.args.index _ c.if-index-outputs.true) c.say_output_end.ensures
