@@ -3,7 +3,7 @@ ghost use Rattle.std.specs.Prelude.{◌≡◌, ◌≤◌, [], length, ℕ, List,
 ghost use Rattle.arrival_spec.specs.declared.event.Scripted.{Scripted};
 ghost use Rattle.arrival_spec.specs.Settings.{Settings};
 ghost use Rattle.arrival_spec.specs.Arrival.{Arrival};
-ghost use Rattle.input_lane.specs.Inlets.{Answers, Asked, Asks, Causes, HandsOut, IsIdle, IsQuestion, Lessens, Stands, Stops, and_given, fault_of};
+ghost use Rattle.input_lane.specs.Inlets.{Answers, Asked, Asks, Causes, HandsOut, IsIdle, IsQuestion, Lessens, Stands, Stops, and_given, fault_of, is_end};
 ghost use Rattle.input_lane.specs.Kept.{settings_of};
 ghost use Rattle.input_lane.specs.Tallies.{counts_of};
 ghost use Rattle.input_lane.specs.declared.state.Reading.TheVariants as reading;
@@ -81,6 +81,19 @@ impl<S: Source> Inlet<S> {
                 room,
                 lane: lane(alloc, conf, input),
             }),
+        }
+    }
+
+    /// Whether reading is over: its source came to the end or failed, or it took as many events as it may. What is given from
+    /// then on is what waits, the closings of the open sessions, and the end.
+    pub fn is_over(&self) -> bool
+        ensures { result ≡ is_end self.now.lane.reading }
+    {
+        match self.lane.reading {
+            Reading::Open => false,
+            Reading::Ended => true,
+            Reading::Failed => true,
+            Reading::Wanting => false,
         }
     }
 
