@@ -107,10 +107,9 @@ module _ {S : Type 0} (left : S → Option (List Scripted)) (faults : S → ℕ)
 
       by_end : (x : InputEnd) → c.end ≡ x → max m (end_code x) ≡ 3 → (m ≡ 3) ⊎ ((p : List ℕ) × (has p (cond c.failed (party.at ∷ rest) rest) ≡ true))
       by_end end.End is h = inl (omega (arith, h))
-      by_end end.Failed is h = inr (party.at, subst (λ b. has party.at (cond b (party.at ∷ rest) rest) ≡ true) (sym (rw is at g.0.ends).0.0) (here party.at rest))
+      by_end end.Failed is h = inr (party.at, subst (λ b. has party.at (cond b (party.at ∷ rest) rest) ≡ true) (sym (rw is at g.0.ends).0) (here party.at rest))
       by_end end.Limit is h = absurd (omega (arith, h))
       by_end end.Memory is h = absurd (omega (arith, h))
-      by_end end.NotBuilt is h = absurd ((rw is at g.0.ends).0)
 
   module _ (file : List ℕ) (old new : Seen) where
     abbrev Came3 : Plan → Came → Result (Unit {0}) OutsideFault → Type 0
@@ -191,7 +190,6 @@ ends_4 m (c ∷ inputs) e = by_end c.end (ends_4 (max m (end_code c.end)) inputs
     by_end end.Failed h = omega (arith, h)
     by_end end.Limit h = absurd (omega (arith, h))
     by_end end.Memory h = absurd (omega (arith, h))
-    by_end end.NotBuilt h = omega (arith, h)
 
 stages_4 : (m : ℕ) (stages : List Bool) → fold max m (map stage_code stages) ≡ 4 → m ≡ 4
 stages_4 m [] e = e

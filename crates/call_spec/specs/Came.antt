@@ -1,5 +1,5 @@
 -- What may come of a call.
-use Rattle.std.specs.Prelude.{ℕ, Bool, List, ◌++◌, Option}
+use Rattle.std.specs.Prelude.{ℕ, Bool, List, Option}
 use Rattle.arrival_spec.specs.declared.event.Scripted.{Scripted}
 use Rattle.config_spec.specs.declared.fault.ConfFault.{ConfFault}
 use Rattle.count_spec.specs.Counts.{Counts}
@@ -33,16 +33,11 @@ pub data Refusal : Type 0 where
   NoOutput : ℕ → Refusal
   NoMemory : Refusal
 
--- the events that an input gave, an event behind them that isn't built, if one came, how it ended, and whether its
--- source failed: it may have wanted memory as well
+-- the events that an input gave, how it ended, and whether its source failed: it may have wanted memory as well
 pub record InputCame : Type 0 where
   pub given : List Scripted
-  pub beyond : List Scripted
   pub end : InputEnd
   pub failed : Bool
-
-abbrev pub taken_of : InputCame → List Scripted
-taken_of came = came.given ++ came.beyond
 
 -- a run: what each input gave; the input of each arrival that was worked off, in order; why the log ended, if it did;
 -- whether each intermediate wanted memory; why each output ended, if it did; and what was counted

@@ -9,7 +9,6 @@ use Rattle.call_spec.specs.declared.end.InputEnd.{InputEnd}
 use Rattle.call_spec.specs.declared.end.InputEnd.TheVariants as end
 use Rattle.call_spec.specs.declared.end.OutputFault.{OutputFault}
 use Rattle.call_spec.specs.declared.end.OutputFault.TheVariants as output
-use Rattle.call_spec.specs.Built.{IsBuilt}
 
 -- these events came off the front of what was left, where that is told
 abbrev pub TakenFrom : Option (List Scripted) → Option (List Scripted) → List Scripted → Type 0
@@ -23,18 +22,13 @@ IsNothingLeft None new = ⊤
 IsNothingLeft (Some old) None = ⊥
 IsNothingLeft (Some old) (Some new) = new ≡ []
 
--- one event came behind those given, and with it they are not built
-abbrev pub IsBeyond : List Scripted → List Scripted → Type 0
-IsBeyond given beyond = (e : Scripted) × (beyond ≡ e ∷ []) × (IsBuilt (given ++ beyond) → ⊥)
-
--- The end of a reading that gave these events, and beyond them one that isn't built. At the end nothing is left. It ends
--- at the limit exactly where so many answers were given before an end or a fault.
-abbrev pub EndsReading : Option (List Scripted) → Option (List Scripted) → List Scripted → List Scripted → InputEnd → Type 0
-EndsReading left now_left given beyond end.End = (beyond ≡ []) × IsNothingLeft left now_left × (length given < 2 ^ 48)
-EndsReading left now_left given beyond end.Failed = (beyond ≡ []) × (length given < 2 ^ 48)
-EndsReading left now_left given beyond end.Limit = (beyond ≡ []) × (length given ≡ 2 ^ 48)
-EndsReading left now_left given beyond end.Memory = beyond ≡ []
-EndsReading left now_left given beyond end.NotBuilt = IsBeyond given beyond × (length given < 2 ^ 48)
+-- The end of a reading that gave these events. At the end nothing is left. It ends at the limit exactly where so many
+-- answers were given before an end or a fault.
+abbrev pub EndsReading : Option (List Scripted) → Option (List Scripted) → List Scripted → InputEnd → Type 0
+EndsReading left now_left given end.End = IsNothingLeft left now_left × (length given < 2 ^ 48)
+EndsReading left now_left given end.Failed = length given < 2 ^ 48
+EndsReading left now_left given end.Limit = length given ≡ 2 ^ 48
+EndsReading left now_left given end.Memory = ⊤
 
 -- an input that ends after so many events, 0 being no limit, has taken them all; or it took no more than they are
 abbrev pub IsFull : ℕ → List Scripted → Type 0
@@ -47,13 +41,12 @@ abbrev pub HasRoom : ℕ → List Scripted → Type 0
 HasRoom limit given = (limit ≡ 0) ⊎ (length (events_of given) < limit)
 
 -- The end of an input of a description, which ends after so many events: nothing is left of its source, or it has taken
--- them all. A source fails before that. No input has another limit yet, and all events are built.
+-- them all. A source fails before that. No input has another limit yet.
 abbrev pub EndsInput : ℕ → Option (List Scripted) → Option (List Scripted) → List Scripted → InputEnd → Bool → Type 0
 EndsInput limit left now_left given end.End failed = (failed ≡ false) × ((IsNothingLeft left now_left × IsWithin limit given) ⊎ IsFull limit given)
 EndsInput limit left now_left given end.Failed failed = (failed ≡ true) × HasRoom limit given
 EndsInput limit left now_left given end.Limit failed = ⊥
 EndsInput limit left now_left given end.Memory failed = IsWithin limit given
-EndsInput limit left now_left given end.NotBuilt failed = ⊥
 
 -- whether the source failed
 abbrev pub source_failed : InputEnd → Bool
@@ -61,14 +54,12 @@ source_failed end.End = false
 source_failed end.Failed = true
 source_failed end.Limit = false
 source_failed end.Memory = false
-source_failed end.NotBuilt = false
 
 abbrev pub wants_memory : InputEnd → Bool
 wants_memory end.End = false
 wants_memory end.Failed = false
 wants_memory end.Limit = false
 wants_memory end.Memory = true
-wants_memory end.NotBuilt = false
 
 -- whether the log's sink failed, of all that may end it; and an output's
 abbrev pub has_failed : Option OutsideFault → Bool

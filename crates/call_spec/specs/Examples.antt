@@ -19,7 +19,7 @@ two_parties = record {
 
 -- an input that ended so
 abbrev pub came_to : InputEnd → Bool → InputCame
-came_to end failed = record { given = []; beyond = []; end = end; failed = failed }
+came_to end failed = record { given = []; end = end; failed = failed }
 
 -- a run in which these came to the inputs, the log, the intermediates and the outputs
 abbrev pub run_with : List InputCame → Option OutsideFault → List Bool → List (Option OutputFault) → RunCame

@@ -15,11 +15,11 @@ use Rattle.text_spec.specs.declared.element.Element.{Element}
 use Rattle.call_spec.specs.Pairs.{Each}
 use Rattle.call_spec.specs.Names.{times, has, marked}
 use Rattle.call_spec.specs.Counts.{TextKept, PlaceKept, SinkKept}
-use Rattle.call_spec.specs.Built.{FileText, IsBuilt}
+use Rattle.call_spec.specs.Files.{FileText}
 use Rattle.call_spec.specs.Ends.{TakenFrom, EndsReading, EndsInput, EndsOutput, HoldsBy, source_failed, wants_memory, has_failed, output_failed}
 use Rattle.call_spec.specs.declared.end.OutputFault.{OutputFault}
 use Rattle.call_spec.specs.Log.{HoldsLog}
-use Rattle.call_spec.specs.Came.{Party, Parties, Refusal, InputCame, RunCame, Came, taken_of}
+use Rattle.call_spec.specs.Came.{Party, Parties, Refusal, InputCame, RunCame, Came}
 use Rattle.call_spec.specs.Came.Refusal.{NoText, BadDescription, BadElements, NoSource, NoLog, NoOutput, NoMemory}
 use Rattle.call_spec.specs.Came.Came.{BadWords, Fine, Refused, Ran}
 use Rattle.call_spec.specs.Plan.{Plan, parties_of}
@@ -145,11 +145,11 @@ arrivals_in conf run = arrivals_from (inputs_of conf) 0 (given_of run)
 abbrev pub limit_of : Conf → ℕ → ℕ
 limit_of conf k = (inputs_of conf k).stop_after
 
--- how an input ended, by what it runs: that of one file ends behind 2 ^ 48 answers as well, and takes one stream alone
+-- how an input ended, by what it runs: that of one file ends behind 2 ^ 48 answers as well
 abbrev pub Ends : Plan → ℕ → Option (List Scripted) → Option (List Scripted) → InputCame → Type 0
 Ends Nothing k left now_left came = ⊥
-Ends (OneFile place out) k left now_left came = EndsReading left now_left came.given came.beyond came.end × (came.failed ≡ source_failed came.end) × IsBuilt came.given
-Ends (Described conf rows) k left now_left came = EndsInput (limit_of conf k) left now_left came.given came.end came.failed × (came.beyond ≡ [])
+Ends (OneFile place out) k left now_left came = EndsReading left now_left came.given came.end × (came.failed ≡ source_failed came.end)
+Ends (Described conf rows) k left now_left came = EndsInput (limit_of conf k) left now_left came.given came.end came.failed
 
 -- an input whose arrivals need not all have been worked off: it wanted memory, or the log ended
 abbrev pub is_short : RunCame → ℕ → Bool
@@ -210,8 +210,8 @@ module _ {S : Type 0} (left : S → Option (List Scripted)) (faults : S → ℕ)
 
   -- what an input gave: its place has lost it, and nothing more; the source gave all of it before it failed, if it did
   pub record Gave (plan : Plan) (old new : Seen) (k : ℕ) (party : Party) (came : InputCame) : Type 0 where
-    pub taken : TakenFrom (old.place party.at).left (new.place party.at).left (taken_of came)
-    pub unfailed : GaveUnfailed (old.place party.at).left (taken_of came)
+    pub taken : TakenFrom (old.place party.at).left (new.place party.at).left came.given
+    pub unfailed : GaveUnfailed (old.place party.at).left came.given
     pub ends : Ends plan k (old.place party.at).left (new.place party.at).left came
 
   -- a run: each input gave its events, their arrivals were worked off in an order that the log shows, and each output has

@@ -1,7 +1,7 @@
 pub mod Pairs
 pub mod Names
 pub mod Counts
-pub mod Built
+pub mod Files
 pub mod Ends
 pub mod Log
 pub mod Came

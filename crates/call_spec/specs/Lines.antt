@@ -25,9 +25,6 @@ usage_text = codes "usage: ipfixcol direct IN OUT, check -c FILE, collect -c FIL
 unfoldable pub fine_text : List ℕ
 fine_text = codes "ok\n"
 
-unfoldable pub not_built_text : List ℕ
-not_built_text = codes "not built\n"
-
 unfoldable pub memory_text : List ℕ
 memory_text = codes "memory\n"
 
@@ -71,7 +68,6 @@ input_line name end.End = []
 input_line name end.Failed = named_line source_start name
 input_line name end.Limit = named_line limit_start name
 input_line name end.Memory = named_line memory_start name
-input_line name end.NotBuilt = not_built_text
 
 -- the line of the log, if it has one, and of an output
 abbrev pub sink_line : List ℕ → Option OutsideFault → List ℕ

@@ -15,7 +15,6 @@ end_code end.End = 0
 end_code end.Failed = 3
 end_code end.Limit = 5
 end_code end.Memory = 6
-end_code end.NotBuilt = 2
 
 abbrev pub fault_code : Option OutsideFault → ℕ
 fault_code None = 0

@@ -11,8 +11,6 @@ pub enum InputEnd {
     Limit,
     /// Memory was wanted to read, cut or decode what came.
     Memory,
-    /// An event came that isn't built yet: it is none of one stream.
-    NotBuilt,
 }
 
 /// Why an output ended before its text did. Each is told by a line and a status of its own.

@@ -1,6 +1,6 @@
 pub mod TextLemmas
 pub mod SessionLemmas
-pub mod StreamLemmas
-pub mod StepLemmas
-pub mod FileLemmas
+pub mod OpenLemmas
+pub mod WorkLemmas
+pub mod ClosingLemmas
 pub mod RunLemmas

@@ -1,8 +1,7 @@
 -- What is taken of a session: data sets, sets, messages.
-use Rattle.std.proofs.Common.{◌≡◌, ℕ, ◌+◌, ◌<◌, ◌≤◌, true, false, List, [], ◌∷◌, ◌++◌, drop, map, Some, None, refl, ap, sym, subst, ◌∙◌, arith, append-nil}
+use Rattle.std.proofs.Common.{◌≡◌, ℕ, ◌+◌, ◌<◌, ◌≤◌, true, false, List, [], ◌∷◌, ◌++◌, drop, cond, Some, None, refl, ap, sym, subst, ◌∙◌, arith, append-nil}
 use Rattle.std.specs.Prelude.{Result, Ok, Err, OnOk, flat_map}
 use Rattle.std.proofs.lemmas.Bool.{ne_eqb}
-use Rattle.std.proofs.lemmas.List.{map-append}
 use Rattle.std.proofs.lemmas.List.Concat.{flat_map-append}
 use Rattle.col_base.specs.declared.base.Transport.TheVariants.{File}
 use Rattle.col_base.specs.Numbers.{be32_at}
@@ -15,28 +14,28 @@ use Rattle.ipfix_reader.specs.Walk.{RawSays, GivesSet, IsSomeMessage, message_of
 use Rattle.ipfix_reader.proofs.WalkLemmas.{body_said, said_none, said_more, said_all}
 use Rattle.wire_spec.specs.WellFormed.{IsWellFormed}
 use Rattle.arrival_spec.specs.Settings.{Settings}
-use Rattle.arrival_spec.specs.Arrival.{Arrival}
-use Rattle.arrival_spec.specs.Arrival.Arrival.{SessionOpen, Raw}
+use Rattle.arrival_spec.specs.Arrival.Arrival.{Raw}
 use Rattle.text_spec.specs.Builtin.{builtin_rows}
-use Rattle.run_spec.specs.Read.{ReadArrival, AreReadAs}
-use Rattle.run_spec.specs.Judge.{message_of as session_message, messages_of}
+use Rattle.run_spec.specs.Read.{ReadArrival}
+use Rattle.run_spec.specs.Judge.{messages_of}
+use Rattle.run_spec.proofs.ApartLemmas.{own_is}
+use Rattle.col_base.specs.declared.base.SessionKey.{SessionKey}
+use Rattle.parser_lane.proofs.ArrivalLemmas.{messages_more}
 use Rattle.run_spec.specs.Touches.{dated, touches_before}
 use Rattle.run_spec.specs.Outcome.{DecodedSet, Outcome, by_definition, outcome, outcomes, outcomes_after, decoded_in, decoded_sets}
 use Rattle.run_spec.specs.Outcome.SkipReason.{ReservedId, NoTemplate}
 use Rattle.run_spec.specs.Outcome.Outcome.{Touched, Skipped}
-use Rattle.run_spec.specs.Work.{Item, items_of}
-use Rattle.run_spec.specs.Work.Item.{Note, Data}
+use Rattle.run_spec.specs.Work.Item.{Data}
 use Rattle.run_spec.specs.Meaning.{IsOutcomeBy}
-use Rattle.run_spec.specs.Result.{sets_text, item_text, json_text}
-use Rattle.run_spec.proofs.ReadLemmas.{one_more_read}
-use Rattle.run_spec.proofs.MoreLemmas.{malformed_none, one_more_outcome, one_more_item}
+use Rattle.run_spec.specs.Result.{sets_text}
+use Rattle.run_spec.proofs.MoreLemmas.{malformed_none, one_more_outcome}
 use Rattle.file_templates.specs.declared.domains.Domains.{Domains}
 use Rattle.file_templates.specs.SessionTemplates.{of_file, is_kept, templates_of, Admits, AreTouched, StandFor, StandAmid}
 use Rattle.file_templates.proofs.SessionTemplatesLemmas.{stand_admitted, stand_crowded, stand_touched, stand_body, stand_later, part_found, part_unknown, part_low, amid_given, crowded_given}
-use Rattle.call_spec.specs.Built.{file_settings}
+use Rattle.call_spec.specs.Files.{file_settings}
 use Rattle.file_lines.specs.declared.texts.Texts.{Texts}
 use Rattle.file_lines.specs.Texts.{AddsText, AddsSets, PutsBody}
-use Rattle.file_lines.specs.Session.{file_key, PutsData, TakesSet, TakenSoFar, TakesMessage, files, next_item, TakesNext, session_of, IsDecoded}
+use Rattle.file_lines.specs.Session.{PutsData, TakesSet, TakenSoFar, TakesMessage, TakesNext}
 use Rattle.file_lines.proofs.TextLemmas.{some_outcome, adds_none, adds_more, sets_both}
 
 -- ---- data sets
@@ -135,75 +134,53 @@ taken_all octets old new at to domain before domains start texts w p g = record 
 }
 
 -- a malformed message
-pub next_malformed : (octets : List ℕ) (domains : Domains) (fault : Malformed) (texts : Texts) → FirstFault octets fault → TakesNext octets domains domains texts texts
-next_malformed octets domains fault texts first = record {
+pub next_malformed : (key : SessionKey) (octets : List ℕ) (domains : Domains) (fault : Malformed) (texts : Texts) → FirstFault octets fault → TakesNext key octets domains domains texts texts
+next_malformed key octets domains fault texts first = record {
   reading = Err fault;
   reads = first;
-  stand = λ past s. subst (λ (l : List Message). StandFor domains l) (sym (malformed_none file_key file_key past fault)) s;
-  item = Data file_key 0 0 0 [];
-  gives = λ settings past s. refl;
+  stand = λ past s. subst (λ (l : List Message). StandFor domains l) (sym (malformed_none key key past fault)) s;
+  item = Data key 0 0 0 [];
+  gives = λ past s. refl;
   adds = adds_none texts;
 }
 
 -- a well-formed message comes behind the others of the session
-messages_more : (before : List ReadArrival) (m : Message) → messages_of file_key (before ++ Raw file_key (Ok m) ∷ []) ≡ messages_of file_key before ++ m ∷ []
-messages_more before m = flat_map-append (session_message file_key) before (Raw file_key (Ok m) ∷ [])
+well_more : (key : SessionKey) (before : List ReadArrival) (m : Message) → messages_of key (before ++ Raw key (Ok m) ∷ []) ≡ messages_of key before ++ m ∷ []
+well_more key before m = messages_more key before (Raw key (Ok m)) ∙ ap (λ b. messages_of key before ++ cond b (m ∷ []) []) (own_is key)
 
 -- a message of a domain that is kept
-pub next_taken : (octets : List ℕ) (domain : ℕ) (old admitted new : Domains) (before after : Texts) → domain ≡ be32_at 12 octets → Admits old domain true admitted → TakesMessage octets domain admitted new before after → TakesNext octets old new before after
-next_taken octets domain old admitted new start texts here a p =
+pub next_taken : (key : SessionKey) (octets : List ℕ) (domain : ℕ) (old admitted new : Domains) (before after : Texts) → domain ≡ be32_at 12 octets → Admits old domain true admitted → TakesMessage octets domain admitted new before after → TakesNext key octets old new before after
+next_taken key octets domain old admitted new start texts here a p =
     let m : Message = message_of octets p.parts in
     let amid : (past : List Message) → StandFor old past → StandAmid new past m.export m.domain m.parts =
     λ past s. subst (λ d. StandAmid new past m.export d m.parts) here (p.stand past m.export (stand_admitted m.export s a refl)) in
-    let given : (settings : Settings) (past : List Message) → StandFor old past → outcomes (of_file settings) past m ≡ p.given =
-    λ settings past s. subst (λ d. outcomes_after (of_file settings) m.export (touches_before (of_file settings) past d) m.parts ≡ p.given) here (p.gives settings past m.export (stand_admitted m.export s a refl)) in
+    let given : (past : List Message) → StandFor old past → outcomes (of_file file_settings) past m ≡ p.given =
+    λ past s. subst (λ d. outcomes_after (of_file file_settings) m.export (touches_before (of_file file_settings) past d) m.parts ≡ p.given) here (p.gives file_settings past m.export (stand_admitted m.export s a refl)) in
     record {
       reading = Ok m;
       reads = p.says;
-      stand = λ before s. subst (λ (l : List Message). StandFor new l) (sym (messages_more before m)) (stand_later m (amid (messages_of file_key before) s));
-      item = Data file_key m.domain m.export m.sequence (decoded_sets p.given);
-      gives = λ settings before s.
-          let past = messages_of file_key before in ap (λ l. Data file_key m.domain m.export m.sequence (decoded_sets l)) (amid_given settings m p.given (amid past s) (given settings past s));
+      stand = λ before s. subst (λ (l : List Message). StandFor new l) (sym (well_more key before m)) (stand_later m (amid (messages_of key before) s));
+      item = Data key m.domain m.export m.sequence (decoded_sets p.given);
+      gives = λ before s.
+          let past = messages_of key before in ap (λ l. Data key m.domain m.export m.sequence (decoded_sets l)) (amid_given file_settings m p.given (amid past s) (given past s));
       adds = p.adds;
     }
 
 -- a message of a domain that is crowded out
-pub next_crowded : (octets : List ℕ) (domain : ℕ) (old new : Domains) (m : Message) (texts : Texts) → Reads octets (Ok m) → domain ≡ m.domain → Admits old domain false new → TakesNext octets old new texts texts
-next_crowded octets domain old new m texts reads here a =
+pub next_crowded : (key : SessionKey) (octets : List ℕ) (domain : ℕ) (old new : Domains) (m : Message) (texts : Texts) → Reads octets (Ok m) → domain ≡ m.domain → Admits old domain false new → TakesNext key octets old new texts texts
+next_crowded key octets domain old new m texts reads here a =
     let b : Admits old m.domain false new = subst (λ d. Admits old d false new) here a in
     record {
       reading = Ok m;
       reads = reads;
-      stand = λ before s. subst (λ (l : List Message). StandFor new l) (sym (messages_more before m)) (stand_crowded m s b refl);
-      item = Data file_key m.domain m.export m.sequence [];
-      gives = λ settings before s. ap (λ l. Data file_key m.domain m.export m.sequence (decoded_sets l)) (crowded_given settings m s b refl);
+      stand = λ before s. subst (λ (l : List Message). StandFor new l) (sym (well_more key before m)) (stand_crowded m s b refl);
+      item = Data key m.domain m.export m.sequence [];
+      gives = λ before s. ap (λ l. Data key m.domain m.export m.sequence (decoded_sets l)) (crowded_given file_settings m s b refl);
       adds = adds_none texts;
     }
 
--- ---- sessions
-
--- of no message
-pub session_none : (domains : Domains) → StandFor domains [] → IsDecoded [] domains []
-session_none domains s = record { read = SessionOpen file_key File ∷ []; reads = (refl, tt); is = refl; stand = s }
-
--- one message more
-pub session_next : (list : List (List ℕ)) (octets : List ℕ) (old new : Domains) (before after : Texts) (text : List ℕ) (n : TakesNext octets old new before after) → IsDecoded list old text
-    → IsDecoded (list ++ octets ∷ []) new (text ++ item_text true builtin_rows n.item)
-session_next list octets old new before after text n p =
-    let here = Raw file_key n.reading in
-    let more : List ReadArrival = p.read ++ here ∷ [] in
-    record {
-      read = more;
-      reads = subst (λ (l : List (Arrival (List ℕ))). AreReadAs (SessionOpen file_key File ∷ l) more) (sym (map-append (Raw file_key) list (octets ∷ [])))
-          (one_more_read (session_of list) p.read (Raw file_key octets) here p.reads (n.reading, n.reads, refl));
-      is = sym (ap (λ (l : List Item). json_text true builtin_rows l) (one_more_item (files file_settings) p.read here ∙ ap (λ (i : Item). items_of (files file_settings) p.read ++ i ∷ []) (n.gives file_settings p.read p.stand))
-          ∙ (flat_map-append (item_text true builtin_rows) (items_of (files file_settings) p.read) (n.item ∷ [])
-          ∙ (ap (λ t. json_text true builtin_rows (items_of (files file_settings) p.read) ++ t) (append-nil (item_text true builtin_rows n.item))
-          ∙ ap (λ t. t ++ item_text true builtin_rows n.item) (sym p.is))));
-      stand = n.stand p.read p.stand;
-    }
-
 -- whatever came of the sets
-pub next_by : {E : Type 0} (r : Result (Unit {0}) E) (octets : List ℕ) (domain : ℕ) (old admitted new : Domains) (before after : Texts) → domain ≡ be32_at 12 octets → Admits old domain true admitted → OnOk r (TakesMessage octets domain admitted new before after) → OnOk r (TakesNext octets old new before after)
-next_by (Ok x) octets domain old admitted new before after here a t = next_taken octets domain old admitted new before after here a t
+pub next_by : {E : Type 0} (r : Result (Unit {0}) E) (octets : List ℕ) (domain : ℕ) (old admitted new : Domains) (before after : Texts) → domain ≡ be32_at 12 octets → Admits old domain true admitted → OnOk r (TakesMessage octets domain admitted new before after)
+    → OnOk r ((key : SessionKey) → TakesNext key octets old new before after)
+next_by (Ok x) octets domain old admitted new before after here a t = λ key. next_taken key octets domain old admitted new before after here a t
 next_by (Err f) octets domain old admitted new before after here a t = tt

@@ -1,5 +1,5 @@
 pub mod Texts
 pub mod Session
-pub mod Stream
-pub mod Steps
+pub mod Sessions
+pub mod Work
 pub mod Run

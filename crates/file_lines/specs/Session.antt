@@ -1,4 +1,4 @@
--- What comes of the messages of a file's session: their items, and the lines of these.
+-- What comes of the messages of a session: their items, and the lines of these.
 use Rattle.std.specs.Prelude.{ℕ, ◌≡◌, true, List, [], ◌∷◌, ◌++◌, map, flat_map, Result}
 use Rattle.col_base.specs.declared.base.SessionKey.{SessionKey}
 use Rattle.col_base.specs.declared.base.Transport.TheVariants.{File}
@@ -21,13 +21,9 @@ use Rattle.run_spec.specs.Work.Item.{Note, Tick, Data}
 use Rattle.run_spec.specs.Result.{json_text, item_text}
 use Rattle.file_templates.specs.declared.domains.Domains.{Domains}
 use Rattle.file_templates.specs.SessionTemplates.{of_file, is_kept, StandFor, StandAmid}
-use Rattle.call_spec.specs.Built.{file_settings}
+use Rattle.call_spec.specs.Files.{file_settings}
 use Rattle.file_lines.specs.declared.texts.Texts.{Texts}
 use Rattle.file_lines.specs.Texts.{AddsText, AddsSets}
-
--- the one session of a file
-abbrev pub file_key : SessionKey
-file_key = key_of 0 0
 
 -- after the sets so far of a message this one gives this
 abbrev pub GivesOutcome : Domains → ℕ → Part → Outcome → Type 0
@@ -72,37 +68,19 @@ pub record TakesMessage (octets : List ℕ) (domain : ℕ) (old new : Domains) (
   pub gives : GivesOutcomes old domain parts given
   pub adds : AddsSets before after (decoded_sets given)
 
--- every input with the settings of a file
-abbrev pub files : Settings → Inputs
-files settings input = of_file settings
+-- every input is a file
+abbrev pub files : Inputs
+files input = file_settings
 
--- the item of a message of the session, behind what was read before it
-abbrev pub next_item : Settings → List ReadArrival → Result Message Malformed → Item
-next_item settings before reading = item_of (files settings) (work_of (files settings) before (Raw file_key reading))
+-- the item of an arrival, behind what was read before it
+abbrev pub next_item : List ReadArrival → ReadArrival → Item
+next_item before a = item_of files (work_of files before a)
 
--- one message more was taken
-pub record TakesNext (octets : List ℕ) (old new : Domains) (before after : Texts) : Type 0 where
+-- one message more of a session was taken
+pub record TakesNext (key : SessionKey) (octets : List ℕ) (old new : Domains) (before after : Texts) : Type 0 where
   pub reading : Result Message Malformed
   pub reads : Reads octets reading
-  pub stand : (past : List ReadArrival) → StandFor old (messages_of file_key past) → StandFor new (messages_of file_key (past ++ Raw file_key reading ∷ []))
+  pub stand : (past : List ReadArrival) → StandFor old (messages_of key past) → StandFor new (messages_of key (past ++ Raw key reading ∷ []))
   pub item : Item
-  pub gives : (settings : Settings) (past : List ReadArrival) → StandFor old (messages_of file_key past) → next_item settings past reading ≡ item
+  pub gives : (past : List ReadArrival) → StandFor old (messages_of key past) → next_item past (Raw key reading) ≡ item
   pub adds : AddsText before after (item_text true builtin_rows item)
-
--- the session opens, and these messages come in it
-abbrev pub session_of : List (List ℕ) → List (Arrival (List ℕ))
-session_of list = SessionOpen file_key File ∷ map (Raw file_key) list
-
--- the text of messages of a file's session
-abbrev pub AreOfText : List ReadArrival → List ℕ → Type 0
-AreOfText read text = text ≡ json_text true builtin_rows (items_of (files file_settings) read)
-
-abbrev pub IsSessionText : List (List ℕ) → List ℕ → Type 0
-IsSessionText list text = (read : List ReadArrival) × AreReadAs (session_of list) read × AreOfText read text
-
--- messages of a file's session have this text, and these domains stand for them
-pub record IsDecoded (list : List (List ℕ)) (domains : Domains) (text : List ℕ) : Type 0 where
-  pub read : List ReadArrival
-  pub reads : AreReadAs (session_of list) read
-  pub is : AreOfText read text
-  pub stand : StandFor domains (messages_of file_key read)

@@ -6,6 +6,7 @@ ghost use Rattle.run_spec.specs.Meaning.{IsOutcomeBy};
 ghost use Rattle.run_spec.specs.Result.{sets_text};
 ghost use Rattle.json_output.specs.Suits.{Suits};
 
+use crate::builtin::BuiltinElements;
 use element_table::Elements;
 use json_output::{Lines, Prepared, put_records};
 use std::alloc::{AllocError, Global};
@@ -54,31 +55,26 @@ impl Form {
     }
 }
 
-/// The forms of the definitions whose records came. A form is found by the domain and the Template ID of a set, and
-/// made anew where the definition is another one: so it is prepared once a definition, and looked up once a set.
+/// The forms of the definitions of a session whose records came. A form is found by the domain and the Template ID of a
+/// set, and made anew where the definition is another one: so it is prepared once a definition, and looked up once a set.
 #[derive(Drop)]
 pub struct Forms {
-    elements: Elements,
     rows: BTreeMap<u64, Form>,
-    ghost are: { elements ≡ builtin_rows },
 }
 
 impl Forms {
-    /// No form. It knows the built-in elements.
-    pub fn new(alloc: Global) -> Result<Forms, AllocError> {
-        let Ok(elements) = Elements::builtin(alloc) else {
-            return Err(AllocError);
-        };
-        Ok(Forms {
-            elements,
+    /// No form. It takes no memory.
+    pub fn new(alloc: Global) -> Forms {
+        Forms {
             rows: BTreeMap::new(alloc),
-        })
+        }
     }
 
     /// Appends the lines of a body's records, and nothing where the body isn't records.
     pub fn put(
         &mut self,
         alloc: Global,
+        elements: &BuiltinElements,
         domain: u32,
         id: u16,
         definition: &Arc<Definition>,
@@ -94,7 +90,7 @@ impl Forms {
                 return form.put(body, lines);
             }
         }
-        let form = Form::new(alloc, &self.elements, definition)?;
+        let form = Form::new(alloc, &elements.table, definition)?;
         form.put(body, lines)?;
         self.rows.insert(key, form)?;
         Ok(())

@@ -7,11 +7,12 @@
 //! What came of it is `Ran`: the events that were given, with their text (`IsFileText` of call_spec).
 #![tactic(auto)]
 
+mod builtin;
 mod form;
-mod phase;
+mod open_sessions;
 mod run;
 mod session;
-mod stream;
 mod texts;
+mod work;
 
 pub use run::{Ended, Run};

@@ -1,20 +1,22 @@
 // A run over the source of a file and a sink.
-ghost use Rattle.std.specs.Prelude.{◌≡◌, ◌≤◌, IfOk, length};
-ghost use Rattle.site_io.specs.Events.{HasLength};
-ghost use Rattle.file_lines.specs.Run.{IsFresh, Steps, StepsAfter, Ran};
+ghost use Rattle.std.specs.Prelude.{◌≡◌, IfNone, IfOk};
+ghost use Rattle.call_spec.specs.Files.{file_settings};
+ghost use Rattle.input_lane.specs.Inlets.{IsIdle};
+ghost use Rattle.input_lane.specs.Kept.{settings_of};
+ghost use Rattle.file_lines.specs.Run.{IsFresh, IsReady, Ran, Steps, WorksWaiting};
 
-use crate::phase::{is_end, is_strange};
-use crate::stream::Reading;
+use crate::open_sessions::OpenSessions;
 use crate::texts::Texts;
+use crate::work::take_answer;
 use call_spec::InputEnd;
-use site_io::{OutsideFault, Sink, Source, SourceEvent};
+use config_spec::InputConf;
+use input_lane::Inlet;
+use run_input::end_of;
+use site_io::{OutsideFault, Sink, Source};
 use std::alloc::{AllocError, Global};
 
 /// The most answers that are taken of a source, NotYet among them.
 const ANSWERS: u64 = 1 << 48;
-
-/// The room that a source may fill in one call, in octets.
-const ROOM: usize = 65535;
 
 /// How a run ended: its input, and its output, if it did.
 #[derive(Clone, Copy, PartialEq, Eq)]
@@ -27,73 +29,64 @@ pub struct Ended {
 #[derive(Drop)]
 pub struct Run {
     alloc: Global,
-    room: Vec<u8>,
-    reading: Reading,
+    sessions: OpenSessions,
     texts: Texts,
 }
 
-/// Takes an answer of the source. None where it was an event, and the reading goes on.
-fn take_answer<K: Sink>(
-    alloc: Global,
-    answer: SourceEvent,
-    room: &[u8],
-    reading: &mut Reading,
+/// Works off what waits of the events that came. None where all was.
+fn work_waiting<S: Source, K: Sink>(
+    inlet: &mut Inlet<S>,
+    sessions: &mut OpenSessions,
     texts: &mut Texts,
     sink: &mut K,
 ) -> Option<InputEnd>
-    requires room { 65535 ≤ length room.now }
-    requires length { HasLength answer }
-    ensures { StepsAfter K.held K.faults answer room.now reading.old reading.new texts.old texts.new sink.old sink.new result }
+    ensures source { inlet.new.source ≡ inlet.old.source }
+    ensures idle { IfNone result (IsIdle inlet.new.lane) }
+    ensures works { WorksWaiting K.held K.faults inlet.old.lane inlet.new.lane sessions.old sessions.new texts.old texts.new sink.old sink.new result }
 {
-    if is_end(answer, room) {
-        return Some(InputEnd::End);
-    }
-    match reading.take_answer(alloc, answer, room, texts, sink) {
-        Ok(()) => {
-            if is_strange(reading.phase) {
-                Some(InputEnd::NotBuilt)
-            } else {
-                None
-            }
+    while let Some(answer) = inlet.waiting() {
+        match take_answer(answer, sessions, texts, sink) {
+            Some(end) => return Some(end),
+            None => {}
         }
-        Err(_) => Some(InputEnd::Memory),
     }
+    None
 }
 
-/// Asks the source once. None where it gave an event, and the reading goes on.
+/// Asks the source once, and works off all that arrives with its answer. None where it gave an event, and the reading goes
+/// on. Sessions that are open at the end of the source close without a text.
 fn read_one<S: Source, K: Sink>(
-    alloc: Global,
-    source: &mut S,
-    room: &mut [u8],
-    reading: &mut Reading,
+    inlet: &mut Inlet<S>,
+    sessions: &mut OpenSessions,
     texts: &mut Texts,
     sink: &mut K,
 ) -> Option<InputEnd>
-    requires { 65535 ≤ length room.old }
-    ensures { Steps S.left S.faults K.held K.faults source.old source.new reading.old reading.new texts.old texts.new sink.old sink.new result }
+    requires { IsIdle inlet.old.lane }
+    ensures { Steps S.left S.faults K.held K.faults inlet.old inlet.new sessions.old sessions.new texts.old texts.new sink.old sink.new result }
 {
-    match source.next(room) {
-        Ok(answer) => take_answer(alloc, answer, room, reading, texts, sink),
-        Err(OutsideFault::Failed) => Some(InputEnd::Failed),
-        Err(OutsideFault::NoMemory) => Some(InputEnd::Memory),
+    let answer = inlet.ask();
+    if inlet.is_over() {
+        return Some(end_of(inlet.fault()));
+    }
+    match take_answer(answer, sessions, texts, sink) {
+        Some(end) => Some(end),
+        None => work_waiting(inlet, sessions, texts, sink),
     }
 }
 
 /// Asks the source up to its end, its first fault, or the most answers that are taken.
 fn read_all<S: Source, K: Sink>(
-    alloc: Global,
-    source: &mut S,
-    room: &mut [u8],
-    reading: &mut Reading,
+    inlet: &mut Inlet<S>,
+    sessions: &mut OpenSessions,
     texts: &mut Texts,
     sink: &mut K,
 ) -> InputEnd
-    requires room { 65535 ≤ length room.old }
-    requires fresh { IsFresh reading.old texts.old }
-    ensures { Ran S.left S.faults K.held K.faults source.old source.new sink.old sink.new result texts.new.fault }
+    requires ready { IsReady inlet.old.lane }
+    requires fresh { IsFresh sessions.old texts.old }
+    ensures { Ran S.left S.faults K.held K.faults inlet.old.source inlet.new.source sink.old sink.new result texts.new.fault }
 {
     for _ in 0..ANSWERS {
-        match read_one(alloc, source, room, reading, texts, sink) {
+        match read_one(inlet, sessions, texts, sink) {
             Some(end) => return end,
             None => {}
         }
@@ -102,35 +95,45 @@ fn read_all<S: Source, K: Sink>(
 }
 
 impl Run {
-    /// The memory for a run over one file. A run takes more as its messages, templates and lines need it.
+    /// The memory for a run over one file. A run takes more for the octets of an event, and as its sessions, messages,
+    /// templates and lines need it.
     pub fn new(alloc: Global) -> Result<Run, AllocError>
-        ensures { IfOk result (λ run. (65535 ≤ length run.room.items) × IsFresh run.reading run.texts) }
+        ensures { IfOk result (λ run. IsFresh run.sessions run.texts) }
     {
         Ok(Run {
             alloc,
-            room: vec![in alloc; 0u8; ROOM]?,
-            reading: Reading::new(alloc),
+            sessions: OpenSessions::new(alloc),
             texts: Texts::new(alloc)?,
         })
     }
 
-    /// Reads the source up to its end, its first fault, or 2^48 answers, and writes the lines of each message.
-    pub fn file<S: Source, K: Sink>(&mut self, source: &mut S, sink: &mut K) -> Ended
-        requires room { 65535 ≤ length self.old.room.items }
-        requires fresh { IsFresh self.old.reading self.old.texts }
-        ensures { Ran S.left S.faults K.held K.faults source.old source.new sink.old sink.new result.input result.output }
+    /// Reads the source up to its end, its first fault, or 2^48 answers, and writes the lines of each message. The source is
+    /// given back.
+    pub fn file<S: Source, K: Sink>(
+        &mut self,
+        conf: &InputConf,
+        source: S,
+        sink: &mut K,
+    ) -> (Ended, S)
+        requires file { settings_of conf.now ≡ file_settings }
+        requires fresh { IsFresh self.old.sessions self.old.texts }
+        ensures { Ran S.left S.faults K.held K.faults source result.1 sink.old sink.new result.0.input result.0.output }
     {
-        let input = read_all(
-            self.alloc,
-            source,
-            self.room.as_mut_slice(),
-            &mut self.reading,
-            &mut self.texts,
-            sink,
-        );
-        Ended {
+        let mut inlet = match Inlet::new(self.alloc, conf, 0, source) {
+            Ok(inlet) => inlet,
+            Err((_, source)) => {
+                let ended = Ended {
+                    input: InputEnd::Memory,
+                    output: self.texts.fault,
+                };
+                return (ended, source);
+            }
+        };
+        let input = read_all(&mut inlet, &mut self.sessions, &mut self.texts, sink);
+        let ended = Ended {
             input,
             output: self.texts.fault,
-        }
+        };
+        (ended, inlet.end())
     }
 }

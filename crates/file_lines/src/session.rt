@@ -1,10 +1,12 @@
-// The messages of a file's session, one after another.
+// The messages of a session, one after another.
 ghost use Rattle.std.specs.Prelude.{◌≡◌, ◌⊎◌, ◌≤◌, ℕ, List, OnOk, OnErr, IfOk, true};
+ghost use Rattle.col_base.specs.declared.base.SessionKey.{SessionKey};
 ghost use Rattle.ipfix_reader.specs.Walk.{IsSomeMessage};
 ghost use Rattle.file_templates.specs.SessionTemplates.{is_kept};
 ghost use Rattle.file_lines.specs.Texts.{KeepsFault};
 ghost use Rattle.file_lines.specs.Session.{PutsData, TakesSet, TakesMessage, TakesNext};
 
+use crate::form::Forms;
 use crate::texts::Texts;
 use col_base::WantOfMemory;
 use file_templates::Domains;
@@ -13,12 +15,18 @@ use std::alloc::Global;
 
 /// Puts the lines of a data set of a message with this header. It has none where it has no valid definition, or its
 /// body isn't records of it.
-fn put_data(set: RawSet<'_>, header: Header, domains: &Domains, texts: &mut Texts)
+fn put_data(
+    set: RawSet<'_>,
+    header: Header,
+    domains: &Domains,
+    forms: &mut Forms,
+    texts: &mut Texts,
+)
     requires { 256 ≤ set.id }
     ensures { PutsData domains.now header.domain set.entry.id set.entry.body.now texts.old texts.new }
 {
     if let Some(definition) = domains.find(header, set.id) {
-        texts.put_body(header.domain, set.id, definition, set.body);
+        texts.put_body(forms, header.domain, set.id, definition, set.body);
     }
 }
 
@@ -29,6 +37,7 @@ fn take_set(
     set: RawSet<'_>,
     header: Header,
     domains: &mut Domains,
+    forms: &mut Forms,
     texts: &mut Texts,
 ) -> Result<(), WantOfMemory>
     requires { is_kept domains.old header.domain ≡ true }
@@ -37,7 +46,7 @@ fn take_set(
 {
     match set.content() {
         SetContent::Templates(_) => domains.take_set(alloc, header, set)?,
-        SetContent::Data(_) => put_data(set, header, domains, texts),
+        SetContent::Data(_) => put_data(set, header, domains, forms, texts),
         SetContent::Reserved => {}
     }
     Ok(())
@@ -49,6 +58,7 @@ fn take_sets(
     message: Message<'_>,
     header: Header,
     domains: &mut Domains,
+    forms: &mut Forms,
     texts: &mut Texts,
 ) -> Result<(), WantOfMemory>
     requires { is_kept domains.old header.domain ≡ true }
@@ -56,7 +66,7 @@ fn take_sets(
     ensures err { OnErr result (KeepsFault texts.old.fault texts.new.fault) }
 {
     for set in message.sets() {
-        match take_set(alloc, set, header, domains, texts) {
+        match take_set(alloc, set, header, domains, forms, texts) {
             Ok(()) => {}
             Err(want) => return Err(want),
         }
@@ -69,15 +79,16 @@ fn take_message(
     alloc: Global,
     message: Message<'_>,
     domains: &mut Domains,
+    forms: &mut Forms,
     texts: &mut Texts,
 ) -> Result<(), WantOfMemory>
     requires { IsSomeMessage message.octets.now }
-    ensures ok { OnOk result (TakesNext message.entry.octets.now domains.old domains.new texts.old texts.new) }
+    ensures ok { OnOk result ((key : SessionKey) → TakesNext key message.entry.octets.now domains.old domains.new texts.old texts.new) }
     ensures err { OnErr result (KeepsFault texts.old.fault texts.new.fault) }
 {
     let header = message.header();
     match domains.admit(alloc, header) {
-        Ok(true) => take_sets(alloc, message, header, domains, texts),
+        Ok(true) => take_sets(alloc, message, header, domains, forms, texts),
         Ok(false) => Ok(()),
         Err(want) => Err(want),
     }
@@ -88,13 +99,14 @@ pub fn take_octets(
     alloc: Global,
     octets: &[u8],
     domains: &mut Domains,
+    forms: &mut Forms,
     texts: &mut Texts,
 ) -> Result<(), WantOfMemory>
-    ensures ok { OnOk result (TakesNext octets.now domains.old domains.new texts.old texts.new) }
+    ensures ok { OnOk result ((key : SessionKey) → TakesNext key octets.now domains.old domains.new texts.old texts.new) }
     ensures err { OnErr result (KeepsFault texts.old.fault texts.new.fault) }
 {
     match check(octets) {
-        Ok(message) => take_message(alloc, message, domains, texts),
+        Ok(message) => take_message(alloc, message, domains, forms, texts),
         Err(_) => Ok(()),
     }
 }

@@ -4,6 +4,7 @@ ghost use Rattle.run_spec.specs.Outcome.{Outcome};
 ghost use Rattle.run_spec.specs.Meaning.{IsOutcomeBy};
 ghost use Rattle.file_lines.specs.Texts.{PutsBody, Clears, Flushes};
 
+use crate::builtin::BuiltinElements;
 use crate::form::Forms;
 use json_output::Lines;
 use site_io::{OutsideFault, Sink};
@@ -16,19 +17,19 @@ use template_def::Definition;
 #[derive(Drop)]
 pub struct Texts {
     alloc: Global,
-    forms: Forms,
+    elements: BuiltinElements,
     lines: Lines,
     pub fault: Option<OutsideFault>,
 }
 
 impl Texts {
-    /// No line.
+    /// No line. It knows the built-in elements.
     pub fn new(alloc: Global) -> Result<Texts, AllocError>
         ensures { IfOk result (λ texts. texts.fault ≡ None) }
     {
         Ok(Texts {
             alloc,
-            forms: Forms::new(alloc)?,
+            elements: BuiltinElements::new(alloc)?,
             lines: Lines::new(alloc),
             fault: None,
         })
@@ -36,15 +37,28 @@ impl Texts {
 
     /// Puts the lines of a body's records, and none where the body isn't records. Where memory is wanted the output
     /// ends.
-    pub fn put_body(&mut self, domain: u32, id: u16, definition: &Arc<Definition>, body: &[u8])
+    pub fn put_body(
+        &mut self,
+        forms: &mut Forms,
+        domain: u32,
+        id: u16,
+        definition: &Arc<Definition>,
+        body: &[u8],
+    )
         ensures { (o : Outcome) → IsOutcomeBy definition.now.value id body.now o → PutsBody self.old self.new o }
     {
         if self.fault.is_some() {
             return;
         }
-        let put = self
-            .forms
-            .put(self.alloc, domain, id, definition, body, &mut self.lines);
+        let put = forms.put(
+            self.alloc,
+            &self.elements,
+            domain,
+            id,
+            definition,
+            body,
+            &mut self.lines,
+        );
         if put.is_err() {
             self.fault = Some(OutsideFault::NoMemory);
         }

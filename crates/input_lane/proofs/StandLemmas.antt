@@ -27,7 +27,8 @@ use Rattle.input_lane.specs.declared.came.InletAnswer.TheVariants as answer
 use Rattle.input_lane.specs.Kept.{Keeps}
 use Rattle.input_lane.specs.Hands.{IsGot, closes_of, handed_by, left_by, meant, meant_by}
 use Rattle.input_lane.specs.Tallies.{Counted, no_counts}
-use Rattle.input_lane.specs.Inlets.{Takes, Finishes, IsReading, IsOver, IsTaken, IsKind, kind_of, IsWithin, IsFull, StandsBehind, IsNoLook, EndsAs, StillBy, GaveBy, Stands, StandsBy, GoesOn, GoesOnBy, Answers, is_end}
+use Rattle.input_lane.specs.Inlets.{Asked, Takes, Finishes, IsEmptyHanded, IsIdle, Stops, IsReading, IsOver, IsTaken, IsKind, kind_of, IsWithin, IsFull, StandsBehind, IsNoLook, EndsAs, StillBy, GaveBy, Stands, StandsBy, GoesOn, GoesOnBy, Answers, is_end}
+use Rattle.input_lane.specs.Inlets.Asked.{NotAsked, Gave, AtEnd, Failing, Wanted}
 use Rattle.site_io.specs.Outside.{one_more as count_more}
 use Rattle.session_table.specs.Table.{Table, ClosesNext}
 use Rattle.session_table.specs.declared.arrival.Arrival.TheVariants as given
@@ -232,6 +233,24 @@ gave_by e answer.NoMemory is g = is
 
 pub open_reading : (settings : Settings) (input : ℕ) (taken : List Scripted) (out : List (Arrival (List ℕ))) (x : Lane) → x.reading ≡ reading.Open → Stands settings input taken out x → IsReading settings input taken out x
 open_reading settings input taken out x is h = subst (λ (r : Reading). StandsBy r settings input taken out x) is h
+
+-- nothing waits: all was given on
+pub idle_reading : (settings : Settings) (input : ℕ) (taken : List Scripted) (out : List (Arrival (List ℕ))) (x : Lane) → IsIdle x → Stands settings input taken out x
+    → IsReading settings input taken out x × (out ≡ arrivals_in (run_of settings input taken).marks)
+idle_reading settings input taken out x idle h =
+    let r = open_reading settings input taken out x idle.0 h in
+    (r, none_whole out (arrivals_in (run_of settings input taken).marks) x.state.hand.items idle.1 r.whole)
+
+-- all was given on: what stood still stands
+pub empty_stands : (old new : Lane) → IsEmptyHanded old new → (settings : Settings) (input : ℕ) (taken : List Scripted) (out : List (Arrival (List ℕ))) → Stands settings input taken out old → Stands settings input taken out new
+empty_stands old new h settings input taken out s = subst (λ (r : Reading). StandsBy r settings input taken out new) (sym h.still) (h.stands settings input taken out s).0
+
+pub empty_stops : (asked : Asked) (old mid new : Lane) → IsEmptyHanded old mid → Stops asked mid new → Stops asked old new
+empty_stops NotAsked old mid new h s = tt
+empty_stops (Gave e) old mid new h s = λ settings input taken out t. s settings input taken out (empty_stands old mid h settings input taken out t)
+empty_stops AtEnd old mid new h s = tt
+empty_stops Failing old mid new h s = tt
+empty_stops Wanted old mid new h s = tt
 
 pub reading_taken : (settings : Settings) (input : ℕ) (taken : List Scripted) (out : List (Arrival (List ℕ))) (x : Lane) → IsReading settings input taken out x → IsTaken settings input taken out x
 reading_taken settings input taken out x r = record { keeps = r.keeps; whole = r.whole; counts = r.counts; within = by_limit r.within }

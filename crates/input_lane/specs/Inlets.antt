@@ -95,10 +95,15 @@ Answers settings input taken out x answer.NoMemory = x.reading ≡ reading.Wanti
 abbrev pub AnswersFrom : Lane → Lane → InletAnswer → Type 0
 AnswersFrom old new a = (settings : Settings) (input : ℕ) (taken : List Scripted) (out : List (Arrival (List ℕ))) → Stands settings input taken out old → Answers settings input taken out new a
 
+-- nothing waits, and reading goes on: the source may be asked
+abbrev pub IsIdle : Lane → Type 0
+IsIdle x = (x.reading ≡ reading.Open) × (x.state.hand.items ≡ [])
+
 -- all was given on, and reading goes on
 pub record IsEmptyHanded (old new : Lane) : Type 0 where
   pub was : old.reading ≡ reading.Open
   pub still : new.reading ≡ reading.Open
+  pub idle : IsIdle new
   pub stands : (settings : Settings) (input : ℕ) (taken : List Scripted) (out : List (Arrival (List ℕ))) → Stands settings input taken out old
       → IsReading settings input taken out new × (out ≡ arrivals_in (run_of settings input taken).marks)
 
@@ -146,6 +151,25 @@ abbrev pub HandsOut : Lane → Lane → Option InletAnswer → Type 0
 HandsOut old new None = IsEmptyHanded old new
 HandsOut old new (Some a) = AnswersFrom old new a × StillBy old.reading new.reading a
 
+-- how many arrivals are given without a question, the end not among them
+abbrev pub still_left : Lane → ℕ
+still_left x = length (left_by x.state.hand.items x.state.sessions)
+
+-- an arrival is given, and they are fewer
+abbrev pub LessensBy : Lane → Lane → InletAnswer → Type 0
+LessensBy old new (answer.Got (given.SessionOpen key transport)) = still_left new < still_left old
+LessensBy old new (answer.Got (given.Raw key octets)) = still_left new < still_left old
+LessensBy old new (answer.Got (given.SessionClose key)) = still_left new < still_left old
+LessensBy old new (answer.Got (given.Periodic n seconds)) = still_left new < still_left old
+LessensBy old new (answer.Got given.End) = ⊤
+LessensBy old new answer.Nothing = ⊤
+LessensBy old new answer.NotYet = ⊤
+LessensBy old new answer.NoMemory = ⊤
+
+abbrev pub Lessens : Lane → Lane → Option InletAnswer → Type 0
+Lessens old new None = ⊤
+Lessens old new (Some a) = LessensBy old new a
+
 -- how an input broke
 abbrev pub fault_of : Reading → LaneFault
 fault_of reading.Open = fault.Nothing
@@ -192,6 +216,14 @@ pub data Asked : Type 0 where
   AtEnd : Asked
   Failing : Asked
   Wanted : Asked
+
+-- the source was asked
+abbrev pub IsQuestion : Asked → Type 0
+IsQuestion NotAsked = ⊥
+IsQuestion (Gave e) = ⊤
+IsQuestion AtEnd = ⊤
+IsQuestion Failing = ⊤
+IsQuestion Wanted = ⊤
 
 abbrev pub and_given : Asked → List Scripted → List Scripted
 and_given NotAsked taken = taken

@@ -3,7 +3,7 @@ ghost use Rattle.std.specs.Prelude.{◌≡◌, ◌≤◌, [], length, ℕ, List,
 ghost use Rattle.arrival_spec.specs.declared.event.Scripted.{Scripted};
 ghost use Rattle.arrival_spec.specs.Settings.{Settings};
 ghost use Rattle.arrival_spec.specs.Arrival.{Arrival};
-ghost use Rattle.input_lane.specs.Inlets.{Answers, Asked, Asks, Causes, Stands, Stops, and_given, fault_of};
+ghost use Rattle.input_lane.specs.Inlets.{Answers, Asked, Asks, Causes, HandsOut, IsIdle, IsQuestion, Lessens, Stands, Stops, and_given, fault_of, is_end};
 ghost use Rattle.input_lane.specs.Kept.{settings_of};
 ghost use Rattle.input_lane.specs.Tallies.{counts_of};
 ghost use Rattle.input_lane.specs.declared.state.Reading.TheVariants as reading;
@@ -35,7 +35,7 @@ fn room(alloc: Global) -> Result<Vec<u8>, WantOfMemory>
 
 /// An input that gave nothing yet.
 fn lane(alloc: Global, conf: &InputConf, input: u16) -> Lane
-    ensures reading { result.reading ≡ reading.Open }
+    ensures idle { IsIdle result }
     ensures stands { Stands (settings_of conf.now) input [] [] result }
 {
     Lane {
@@ -70,6 +70,7 @@ impl<S: Source> Inlet<S> {
     ) -> Result<Self, (WantOfMemory, S)>
         ensures source { IfOk result (λ inlet. inlet.source ≡ source) }
         ensures reading { IfOk result (λ inlet. inlet.lane.reading ≡ reading.Open) }
+        ensures idle { IfOk result (λ inlet. IsIdle inlet.lane) }
         ensures stands { IfOk result (λ inlet. Stands (settings_of conf.now) input [] [] inlet.lane) }
         ensures refused { IfErr result (λ refused. refused.1 ≡ source) }
     {
@@ -80,6 +81,19 @@ impl<S: Source> Inlet<S> {
                 room,
                 lane: lane(alloc, conf, input),
             }),
+        }
+    }
+
+    /// Whether reading is over: its source came to the end or failed, or it took as many events as it may. What is given from
+    /// then on is what waits, the closings of the open sessions, and the end.
+    pub fn is_over(&self) -> bool
+        ensures { result ≡ is_end self.now.lane.reading }
+    {
+        match self.lane.reading {
+            Reading::Open => false,
+            Reading::Ended => true,
+            Reading::Failed => true,
+            Reading::Wanting => false,
         }
     }
 
@@ -109,16 +123,23 @@ impl<S: Source> Inlet<S> {
         self.source
     }
 
-    /// The next arrival. While reading goes on, the source is asked once where nothing waits of the events before.
-    pub fn next(&mut self) -> InletAnswer
-        ensures { (asked : Asked) × Asks S.left S.faults asked self.old.source self.new.source × Causes asked self.old.lane.reading self.new.lane.reading result × Stops asked self.old.lane self.new.lane
+    /// What is given without a question to the source: what waits of the events before, and once reading is over the closings
+    /// of the open sessions and then the end. None where nothing waits and reading goes on.
+    pub fn waiting(&mut self) -> Option<InletAnswer>
+        ensures hands { HandsOut self.old.lane self.new.lane result }
+        ensures lessens { Lessens self.old.lane self.new.lane result }
+        ensures source { self.new.source ≡ self.old.source }
+    {
+        self.lane.hand_out()
+    }
+
+    /// Asks the source once, where nothing waits and reading goes on, and answers the first arrival of what it gave.
+    pub fn ask(&mut self) -> InletAnswer
+        requires { IsIdle self.old.lane }
+        ensures { (asked : Asked) × IsQuestion asked × Asks S.left S.faults asked self.old.source self.new.source × Causes asked self.old.lane.reading self.new.lane.reading result × Stops asked self.old.lane self.new.lane
             × ((settings : Settings) (input : ℕ) (taken : List Scripted) (out : List (Arrival (List ℕ))) → Stands settings input taken out self.old.lane
             → Answers settings input (and_given asked taken) out self.new.lane result) }
     {
-        match self.lane.hand_out() {
-            Some(answer) => return answer,
-            None => {}
-        }
         match self.source.next(&mut self.room) {
             Err(OutsideFault::NoMemory) => self.lane.want(),
             Err(OutsideFault::Failed) => self.lane.finish(Reading::Failed),
@@ -127,6 +148,18 @@ impl<S: Source> Inlet<S> {
                 Kind::Look => InletAnswer::NotYet,
                 Kind::Event => self.lane.took(event, &self.room),
             },
+        }
+    }
+
+    /// The next arrival. While reading goes on, the source is asked once where nothing waits of the events before.
+    pub fn next(&mut self) -> InletAnswer
+        ensures { (asked : Asked) × Asks S.left S.faults asked self.old.source self.new.source × Causes asked self.old.lane.reading self.new.lane.reading result × Stops asked self.old.lane self.new.lane
+            × ((settings : Settings) (input : ℕ) (taken : List Scripted) (out : List (Arrival (List ℕ))) → Stands settings input taken out self.old.lane
+            → Answers settings input (and_given asked taken) out self.new.lane result) }
+    {
+        match self.waiting() {
+            Some(answer) => answer,
+            None => self.ask(),
         }
     }
 }

@@ -4,7 +4,7 @@ ghost use Rattle.arrival_spec.specs.declared.event.Scripted.{Scripted};
 ghost use Rattle.arrival_spec.specs.Events.{is_event};
 ghost use Rattle.site_io.specs.Events.{event_in, HasLength};
 ghost use Rattle.input_lane.specs.Hands.{IsGot};
-ghost use Rattle.input_lane.specs.Inlets.{AnswersFrom, Ends, EndsAs, HandsOut, IsNoLook, StopsBy, Took, is_end, kind_of};
+ghost use Rattle.input_lane.specs.Inlets.{AnswersFrom, Ends, EndsAs, HandsOut, IsNoLook, Lessens, LessensBy, StopsBy, Took, is_end, kind_of};
 ghost use Rattle.input_lane.specs.declared.state.Reading.TheVariants as reading;
 
 use crate::came::InletAnswer;
@@ -34,6 +34,7 @@ impl Lane {
         requires { is_end self.old.reading ≡ true }
         ensures reading { self.new.reading ≡ self.old.reading }
         ensures answers { AnswersFrom self.old self.new result }
+        ensures lessens { LessensBy self.old self.new result }
         ensures got { IsGot result }
     {
         match self.state.hand.pop_front() {
@@ -48,7 +49,8 @@ impl Lane {
 
     /// What is to be answered without a question to the source.
     pub fn hand_out(&mut self) -> Option<InletAnswer>
-        ensures { HandsOut self.old self.new result }
+        ensures hands { HandsOut self.old self.new result }
+        ensures lessens { Lessens self.old self.new result }
     {
         match self.reading {
             Reading::Wanting => Some(InletAnswer::NoMemory),

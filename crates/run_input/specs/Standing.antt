@@ -74,4 +74,3 @@ StandsBy (Some end.End) settings number given read lane p = IsDone settings numb
 StandsBy (Some end.Failed) settings number given read lane p = IsDone settings number given read lane p × (lane.reading ≡ reading.Failed)
 StandsBy (Some end.Limit) settings number given read lane p = ⊥
 StandsBy (Some end.Memory) settings number given read lane p = IsFront settings number given read
-StandsBy (Some end.NotBuilt) settings number given read lane p = ⊥

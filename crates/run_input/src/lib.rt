@@ -12,3 +12,4 @@ mod work;
 
 pub use counts::added;
 pub use input::{Input, InputAnswer};
+pub use work::end_of;

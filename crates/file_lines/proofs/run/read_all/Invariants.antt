@@ -4,4 +4,4 @@ use Rattle.file_lines.specs.Run.{SoFar}
 use Rattle.file_lines.proofs.run.read_all.Given as goal
 
 abbrev pub invariant-loop : goal.invariant-loop
-invariant-loop g l = (given : List Scripted) × SoFar g.S.Source.left g.S.Source.faults g.K.Sink.held g.K.Sink.faults given l.initial.source l.source l.initial.sink l.sink l.reading l.texts × (length given ≡ l.counter)
+invariant-loop g l = (given : List Scripted) × SoFar g.S.Source.left g.S.Source.faults g.K.Sink.held g.K.Sink.faults given l.initial.inlet.source l.inlet l.initial.sink l.sink l.sessions l.texts × (length given ≡ l.counter)

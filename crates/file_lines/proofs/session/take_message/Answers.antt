@@ -12,4 +12,4 @@ pub returns-in-Ok-false-clause-ok : goal.returns-in-Ok-false-clause-ok
 returns-in-Ok-false-clause-ok c =
     let said = some_says c.args.message.octets.now c.requires.0 c.requires.1 in
     let a = rw c.in-Ok-false.field-0-test at c.in-Ok-false.ensures.ok in
-    next_crowded c.args.message.octets.now c.header-header.result.domain c.args.domains.now c.admit.new.self said.0 c.args.texts.now said.1 (c.header-header.ensures.domain ∙ sym said.1.domain) a
+    λ key. next_crowded key c.args.message.octets.now c.header-header.result.domain c.args.domains.now c.admit.new.self said.0 c.args.texts.now said.1 (c.header-header.ensures.domain ∙ sym said.1.domain) a

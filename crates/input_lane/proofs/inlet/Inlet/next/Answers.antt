@@ -1,35 +1,16 @@
-use Rattle.std.proofs.Common.{◌≡◌, ◌∙◌, ◌++◌, ◌∷◌, [], refl, sym, subst, ap, rules}
-use Rattle.std.specs.Prelude.{Option}
-use Rattle.arrival_spec.specs.declared.event.Scripted.{Scripted}
-use Rattle.arrival_spec.specs.declared.event.Scripted.TheVariants as scripted
-use Rattle.site_io.specs.Events.{TakesFirst, event_in}
-use Rattle.input_lane.specs.Inlets.{IsKind}
-use Rattle.input_lane.specs.Inlets.Asked.{Gave}
-use Rattle.input_lane.proofs.StandLemmas.{gave_by, kind_is, look_reading, look_whole, room_whole, stands_behind}
-use Rattle.input_lane.specs.declared.state.Reading.TheVariants as reading
+use Rattle.std.proofs.Common.{◌∙◌, sym, subst}
+use Rattle.input_lane.specs.Inlets.{Asks, Causes}
+use Rattle.input_lane.specs.declared.state.Reading.{Reading}
+use Rattle.input_lane.proofs.StandLemmas.{empty_stands, empty_stops}
 use Rattle.input_lane.proofs.inlet.Inlet.next.Goals as goal
 
-pub returns-in-Look : goal.returns-in-Look
-returns-in-Look g c =
-    let is = subst (IsKind c.next.new.room c.in-Ok.event) (sym c.kind.ensures ∙ c.in-Look.is) (kind_is c.next.new.room c.in-Ok.event) in (
-      Gave scripted.NotYet,
-      (subst (λ (o : Option Scripted). TakesFirst (g.S.Source.left c.args.self.now.source) (g.S.Source.left c.next.new.self) o) is c.in-Ok.ensures.takes, c.in-Ok.ensures.counts),
-      (c.in-None.ensures.was, refl),
-      λ settings input taken out h. stands_behind settings (taken ++ scripted.NotYet ∷ []) _ reading.Open c.in-None.ensures.still tt,
-      λ settings input taken out h.
-          let s = c.in-None.ensures.stands settings input taken out h in
-          (look_reading settings input taken out c.hand_out.new.self s.0, look_whole settings input taken out s.1, c.in-None.ensures.still),
-    )
-
-pub returns-in-Event : goal.returns-in-Event
-returns-in-Event g c =
-    let is = subst (IsKind c.next.new.room c.in-Ok.event) (sym c.kind.ensures ∙ c.in-Event.is) (kind_is c.next.new.room c.in-Ok.event) in
-    let same : c.deref.result.now ≡ c.next.new.room = c.deref.ensures.value ∙ room_whole _ c.next.new.room c.args.self.now.room.items (search rules) (search rules) in (
-      Gave is.0,
-      (subst (λ (o : Option Scripted). TakesFirst (g.S.Source.left c.args.self.now.source) (g.S.Source.left c.next.new.self) o) is.1 c.in-Ok.ensures.takes, c.in-Ok.ensures.counts),
-      (c.in-None.ensures.was, gave_by is.0 c.took.result is.2 c.took.ensures.look),
-      λ settings input taken out h. c.took.ensures.stops is.0 is.2 settings input taken out (c.in-None.ensures.stands settings input taken out h).0,
-      λ settings input taken out h.
-          let s = c.in-None.ensures.stands settings input taken out h in
-          c.took.ensures.took is.0 (ap (λ r. event_in r c.in-Ok.event) same ∙ is.1) is.2 settings input taken out s.0,
+pub returns-in-None : goal.returns-in-None
+returns-in-None g c =
+    let asked = c.ask.ensures.0 in
+    let hands = c.in-None.ensures.hands in (
+      asked,
+      subst (λ s. Asks g.S.Source.left g.S.Source.faults asked s c.ask.new.self.source) c.waiting.ensures.source c.ask.ensures.2,
+      subst (λ (r : Reading). Causes asked r c.ask.new.self.lane.reading c.ask.result) (hands.still ∙ sym hands.was) c.ask.ensures.3,
+      empty_stops asked c.args.self.now.lane c.waiting.new.self.lane c.ask.new.self.lane hands c.ask.ensures.4,
+      λ settings input taken out h. c.ask.ensures.5 settings input taken out (empty_stands c.args.self.now.lane c.waiting.new.self.lane hands settings input taken out h),
     )

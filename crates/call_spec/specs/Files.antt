@@ -1,29 +1,19 @@
--- What is built: of the events of one file those of one stream, as far as they came. And what an input of a file is in text.
-use Rattle.std.specs.Prelude.{ℕ, ◌≡◌, ◌⊎◌, true, List, [], ◌∷◌}
+-- What the one input of `direct` is, and what it is in text.
+use Rattle.std.specs.Prelude.{ℕ, true, List, [], ◌∷◌}
 use Rattle.col_base.specs.declared.base.Transport.TheVariants.{File}
 use Rattle.arrival_spec.specs.declared.event.Scripted.{Scripted}
-use Rattle.arrival_spec.specs.Events.{events_of}
-use Rattle.arrival_spec.specs.OneStream.{IsOneStream}
 use Rattle.arrival_spec.specs.Settings.{Settings}
 use Rattle.text_spec.specs.Builtin.{builtin_rows}
 use Rattle.run_spec.specs.Result.{IsText}
 use Rattle.call_spec.specs.Came.{InputCame}
 
--- the settings of the one input of `direct`: a file, read to its end, with the defaults of a description
+-- its settings: a file, read to its end, with the defaults of a description
 abbrev pub file_settings : Settings
 file_settings = record { transport = File; life = record { template = 1800; options = 1800; late = 1800 }; idle = 600; stop_after = 0 }
 
 -- the text of one file: a line for each record, options records too, by the built-in elements
 abbrev pub IsFileText : List Scripted → List ℕ → Type 0
 IsFileText given text = IsText file_settings true builtin_rows given text
-
--- the events of connection 0, as far as they came: it opens, its octets come in these pieces, and it closes
-abbrev pub AreOfOneStream : List Scripted → List (List ℕ) → Type 0
-AreOfOneStream events pieces = ((events ≡ []) × (pieces ≡ [])) ⊎ IsOneStream events pieces
-
--- what a source gave is built
-abbrev pub IsBuilt : List Scripted → Type 0
-IsBuilt given = (pieces : List (List ℕ)) × AreOfOneStream (events_of given) pieces
 
 -- the text of the one input
 abbrev pub FileText : List InputCame → List ℕ → Type 0
