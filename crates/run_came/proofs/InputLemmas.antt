@@ -68,7 +68,6 @@ ends_at limit o m was now given end.End failed f (calm_all, inr full) = (calm_al
 ends_at limit o m was now given end.Failed failed f h = h
 ends_at limit o m was now given end.Limit failed f h = h
 ends_at limit o m was now given end.Memory failed f h = h
-ends_at limit o m was now given end.NotBuilt failed f h = h
 
 module _ {S : Type 0} (left : S → Option (List Scripted)) (faults : S → ℕ) where
   -- how inputs ended is how they came out
@@ -94,21 +93,17 @@ module _ {S : Type 0} (left : S → Option (List Scripted)) (faults : S → ℕ)
     gave k input pair x some b c s =
         let place = input.spec.place in
         let told : Told (a.place place).left (e.place place).left (left pair.0) (left x.inlet.source) = (λ events is. (b.0 events is, s.0 (let few = once place (is_told (a.place place).left events is) in let m = s.1 in omega arith))) in
-        let none : pair.1.beyond ≡ [] = ap (λ (d : InputCame). d.beyond) c.is in
-        let all : pair.1.given ≡ pair.1.given ++ pair.1.beyond = sym (ap (λ l. pair.1.given ++ l) none ∙ append-nil pair.1.given) in
         let u = c.has.unfailed in
         record {
-          taken = subst (λ l. TakenFrom (a.place place).left (e.place place).left l) all (taken_at (a.place place).left (e.place place).left (left pair.0) (left x.inlet.source) pair.1.given told c.has.taken);
+          taken = taken_at (a.place place).left (e.place place).left (left pair.0) (left x.inlet.source) pair.1.given told c.has.taken;
           unfailed = (
             u.0,
             u.1 ∙ b.1,
-            subst (λ l. TakenFrom (a.place place).left (left u.0) l) all (taken_at (a.place place).left (left u.0) (left pair.0) (left u.0) pair.1.given (λ events is. ((told events is).0, refl)) u.2),
+            taken_at (a.place place).left (left u.0) (left pair.0) (left u.0) pair.1.given (λ events is. ((told events is).0, refl)) u.2,
           );
-          ends = (
-            ends_at (limit_of conf k) (a.place place).left (e.place place).left (left pair.0) (left x.inlet.source) pair.1.given pair.1.end pair.1.failed told
-                (input_ends left faults (inputs_of conf) entries k pair x c some b.1),
-            none,
-          );
+          ends =
+              ends_at (limit_of conf k) (a.place place).left (e.place place).left (left pair.0) (left x.inlet.source) pair.1.given pair.1.end pair.1.failed told
+              (input_ends left faults (inputs_of conf) entries k pair x c some b.1);
         }
 
     -- of all

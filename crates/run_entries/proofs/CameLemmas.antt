@@ -76,7 +76,6 @@ module _ {S : Type 0} (left : S → Option (List Scripted)) (faults : S → ℕ)
       by_end (Some end.End) some s = all_of_it k given end.End read s.0.are_read is
       by_end (Some end.Failed) some s = all_of_it k given end.Failed read s.0.are_read is
       by_end (Some end.Limit) some s = absurd s
-      by_end (Some end.NotBuilt) some s = absurd s
       by_end (Some end.Memory) some s =
           let d = some_items all (arrivals_of (all k) k given) in
           let mine = front_own k s.out s.rest (subst (λ l. AllByRecursion (λ (a : Arrival (List ℕ)). input_of a ≡ k) l) s.whole (all_own (all k) k given)) in

@@ -57,7 +57,6 @@ module _ {S : Type 0} (left : S → Option (List Scripted)) (faults : S → ℕ)
   input_counted k given read x c (Some end.End) some calm_all counted s = done_counted k given read x c counted s.0
   input_counted k given read x c (Some end.Failed) some calm_all counted s = done_counted k given read x c counted s.0
   input_counted k given read x c (Some end.Limit) some calm_all counted s = absurd s
-  input_counted k given read x c (Some end.NotBuilt) some calm_all counted s = absurd s
   input_counted k given read x c (Some end.Memory) some calm_all counted s = absurd cc
 
   pub all_counted : (n m : ℕ) (pairs : List (S × InputCame)) (xs : List (Input S)) (cs : List RunCounts) → Each (InputCameTo left faults all entries) n pairs xs → list_all (λ (x : Input S). is_some x.end) xs ≡ true

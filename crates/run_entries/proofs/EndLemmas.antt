@@ -64,7 +64,6 @@ module _ {S : Type 0} (left : S → Option (List Scripted)) (faults : S → ℕ)
       let more : 0 < faults x.inlet.source = (let a = rose.1 in omega arith) in
       (lt-ltb 0 (faults x.inlet.source) more, subst (λ (h : Reading). ReadsBy (all k).stop_after (left first) (left x.inlet.source) given h) s.1 r)
   ends_by all k first x given read (Some end.Limit) some fresh r f s = absurd s
-  ends_by all k first x given read (Some end.NotBuilt) some fresh r f s = absurd s
   ends_by all k first x given read (Some end.Memory) some fresh r f s = within (all k).stop_after (left first) (left x.inlet.source) given x.inlet.lane.reading r
 
   -- an input of a run has ended as a call promises

@@ -18,13 +18,13 @@ use Rattle.logged_outputs.specs.Entries.{AreKnown, Entry, own}
 
 -- how an input ended: that of a run has
 abbrev pub end_or : Option InputEnd → InputEnd
-end_or None = end.NotBuilt
+end_or None = end.Memory
 end_or (Some e) = e
 
 module _ {S : Type 0} (left : S → Option (List Scripted)) (faults : S → ℕ) where
   -- what came of an input whose source gave these events
   abbrev pub came_of : Input S → List Scripted → InputCame
-  came_of x given = record { given = given; beyond = []; end = end_or x.end; failed = nat_lt 0 (faults x.inlet.source) }
+  came_of x given = record { given = given; end = end_or x.end; failed = nat_lt 0 (faults x.inlet.source) }
 
   -- an input of a run gave these events, since its source was so, and its entries are the items of the arrivals that it
   -- worked off

@@ -10,7 +10,7 @@ use site_io::Source;
 fn end_of(end: Option<InputEnd>) -> InputEnd
     ensures { result ≡ end_or end }
 {
-    end.unwrap_or(InputEnd::NotBuilt)
+    end.unwrap_or(InputEnd::Memory)
 }
 
 /// Notes how each input ended. It takes no memory.

@@ -2,14 +2,13 @@
 use Rattle.std.specs.Prelude.{ℕ, ◌≡◌, List, Result}
 use Rattle.site_io.specs.declared.outside.OutsideFault.{OutsideFault}
 use Rattle.site_io.specs.Seen.{Seen, ChangesSay}
-use Rattle.call_spec.specs.Lines.{Said, usage_text, fine_text, not_built_text, memory_text, source_start, sink_start, limit_start, memory_start, description_start, elements_start, colon, log_name, line_end}
+use Rattle.call_spec.specs.Lines.{Said, usage_text, fine_text, memory_text, source_start, sink_start, limit_start, memory_start, description_start, elements_start, colon, log_name, line_end}
 use Rattle.run_lines.specs.declared.saying.Piece.{Piece}
 use Rattle.run_lines.specs.declared.saying.Piece.TheVariants as piece
 
 abbrev pub piece_text : Piece → List ℕ
 piece_text piece.Usage = usage_text
 piece_text piece.Fine = fine_text
-piece_text piece.NotBuilt = not_built_text
 piece_text piece.Memory = memory_text
 piece_text piece.Source = source_start
 piece_text piece.Sink = sink_start

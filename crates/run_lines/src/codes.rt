@@ -16,7 +16,6 @@ pub fn end_code(end: InputEnd) -> u8
         InputEnd::Failed => 3,
         InputEnd::Limit => 5,
         InputEnd::Memory => 6,
-        InputEnd::NotBuilt => 2,
     }
 }
 

@@ -4,7 +4,7 @@ ghost use Rattle.call_spec.specs.Lines.{input_line, log_line, output_line, sink_
 ghost use Rattle.run_lines.specs.Ended.{input_name, stage_name, output_name};
 ghost use Rattle.run_lines.specs.Says.{Says};
 
-use crate::saying::{Piece, say_named, say_piece};
+use crate::saying::{Piece, say_named};
 use call_spec::{InputEnd, OutputFault};
 use col_base::Text;
 use config_spec::{InputConf, OutputConf, StageConf};
@@ -25,7 +25,6 @@ pub fn say_input<S: Site>(
         InputEnd::Failed => say_named(alloc, Piece::Source, name, site),
         InputEnd::Limit => say_named(alloc, Piece::Limit, name, site),
         InputEnd::Memory => say_named(alloc, Piece::Wanting, name, site),
-        InputEnd::NotBuilt => say_piece(Piece::NotBuilt, site),
     }
 }
 

@@ -14,7 +14,6 @@ use std::alloc::{AllocError, Global};
 pub enum Piece {
     Usage,
     Fine,
-    NotBuilt,
     Memory,
     Source,
     Sink,
@@ -29,7 +28,7 @@ pub enum Piece {
 
 impl Piece {
     /// The octets of the piece.
-    #[tactic(auto, unfolding(call_spec::specs::Lines::usage_text, call_spec::specs::Lines::fine_text, call_spec::specs::Lines::not_built_text, call_spec::specs::Lines::memory_text, call_spec::specs::Lines::source_start, call_spec::specs::Lines::sink_start, call_spec::specs::Lines::limit_start, call_spec::specs::Lines::memory_start, call_spec::specs::Lines::description_start, call_spec::specs::Lines::elements_start, call_spec::specs::Lines::colon, call_spec::specs::Lines::log_name, call_spec::specs::Lines::line_end))]
+    #[tactic(auto, unfolding(call_spec::specs::Lines::usage_text, call_spec::specs::Lines::fine_text, call_spec::specs::Lines::memory_text, call_spec::specs::Lines::source_start, call_spec::specs::Lines::sink_start, call_spec::specs::Lines::limit_start, call_spec::specs::Lines::memory_start, call_spec::specs::Lines::description_start, call_spec::specs::Lines::elements_start, call_spec::specs::Lines::colon, call_spec::specs::Lines::log_name, call_spec::specs::Lines::line_end))]
     pub fn octets(self) -> &'static [u8]
         ensures { result.now ≡ piece_text self }
     {
@@ -37,7 +36,6 @@ impl Piece {
             Piece::Usage =>
                 b"usage: ipfixcol direct IN OUT, check -c FILE, collect -c FILE, generate NUMBER COUNT\n",
             Piece::Fine => b"ok\n",
-            Piece::NotBuilt => b"not built\n",
             Piece::Memory => b"memory\n",
             Piece::Source => b"source fault: ",
             Piece::Sink => b"sink fault: ",
