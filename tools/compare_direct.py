@@ -1,11 +1,18 @@
 #!/usr/bin/env python3
 """compare_direct.py PROGRAM [ROUNDS [SEED]]: holds `PROGRAM direct` to a second reader, written apart and slowly.
 
+    tools/compare_direct.py crates/ipfixcol/out/ipfixcol 1000
+    tools/compare_direct.py events crates/script_run/out/script_run 2000
+
 Each round makes an IPFIX File out of templates, options templates, withdrawals, data sets and strange sets of a few
 domains, most of them right, with elements of every type, elements that aren't known, elements that stand several times
 in a record, and values of every length; many files are then cut or changed in some octets. What `direct` answers and
-writes is compared with what RFC 7011 and docs/FORMATS.md say of the file, as tools/json_lines.py reads it. The first file that differs is kept in the
-system's folder for temporary files.
+writes is compared with what RFC 7011 and docs/FORMATS.md say of the file, as tools/json_lines.py reads it. The first file
+that differs is kept in the system's folder for temporary files.
+
+With the word `events` each round is a script of `script_run`, whose call is `direct IN OUT`: the source gives several
+connections, which open, end within a message, close and open again, events of none of them, datagrams and seconds, and it and
+the sink fail here and there. What is printed of it is compared with what tools/runs.py reads.
 """
 
 import random
@@ -155,6 +162,32 @@ def main(program, rounds, seed):
     return 0
 
 
+def scripts_maker():
+    """Makes the scripts of `direct`. What makes those of `collect` stands above this file, so it is named here alone."""
+    from compare_collect import Maker as Collected
+
+    class Scripts(Collected):
+        def script(self, is_long):
+            self.definitions = self.some_definitions()
+            lines = self.source({"kind": "file"}, "in", is_long) + self.sink("out", 12)
+            if self.chance(0.06):
+                lines.append(f"sayfails {self.random.randrange(0, 3)}:{self.random.choice([0, 1, 5, 40])}")
+            return "\n".join(["word direct", "word in", "word out"] + lines) + "\n"
+
+    return Scripts
+
+
+def compare_events(program, count, seed):
+    import compare_collect
+    import runs
+    from compared import Comparison
+
+    return Comparison([program], runs.printed, 1).run(compare_collect.scripts(seed, count, scripts_maker()), seed)
+
+
 if __name__ == "__main__":
     arguments = sys.argv[1:]
+    if arguments[0] == "events":
+        seed = int(arguments[3]) if len(arguments) > 3 else random.randrange(2**32)
+        sys.exit(compare_events(arguments[1], int(arguments[2]) if len(arguments) > 2 else 2000, seed))
     sys.exit(main(arguments[0], int(arguments[1]) if len(arguments) > 1 else 1000, int(arguments[2]) if len(arguments) > 2 else 1))

@@ -1,11 +1,11 @@
 #!/usr/bin/env python3
-"""A second reader of whole runs of `collect`, written apart from the program and slowly, from docs/DEFINITIONS.md,
-docs/OPERATING.md and docs/FORMATS.md.
+"""A second reader of whole runs of `collect` and `direct`, written apart from the program and slowly, from
+docs/DEFINITIONS.md, docs/OPERATING.md and docs/FORMATS.md.
 
     tools/runs.py FILE..
 
-prints of each script what `script_run FILE` prints of it, where its call is `collect -c conf`: the status, what was said,
-and what each sink holds. Descriptions are taken to have no fault of their own.
+prints of each script what `script_run FILE` prints of it, where its call is `collect -c conf` or `direct IN OUT`: the status,
+what was said, and what each sink holds. Descriptions are taken to have no fault of their own.
 """
 
 import sys
@@ -57,6 +57,7 @@ class Script:
 
     def __init__(self, text):
         self.texts, self.sources, self.failing, self.sinks, self.names = {}, {}, {}, {}, []
+        self.words = []
         self.say = Failing()
         fails = {}
         for line in text.splitlines():
@@ -64,7 +65,9 @@ class Script:
                 events.append(line[2:])
                 continue
             word, *parts = line.split(" ")
-            if word == "text":
+            if word == "word":
+                self.words.append(parts[0])
+            elif word == "text":
                 self.texts.setdefault(parts[0], octets_of(parts[1]))
             elif word == "source":
                 events = []
@@ -169,7 +172,9 @@ def in_turn(inputs):
 
 
 class Run:
-    """A run of a description."""
+    """A run of a description, whose counts are said."""
+
+    counted = True
 
     def __init__(self, script, description, known):
         self.description, self.known = description, known
@@ -217,13 +222,30 @@ class Run:
             if sink and sink.failed:
                 lines.append(f"sink fault: {name}")
                 status = 4
-        for name in COUNTS:
-            lines.append(f"{name} {min(sum(one.counts[name] for one in self.inputs), 2**64 - 1)}")
-        return lines + ["opened 0", "released 0"], status
+        if self.counted:
+            for name in COUNTS:
+                lines.append(f"{name} {min(sum(one.counts[name] for one in self.inputs), 2**64 - 1)}")
+            lines += ["opened 0", "released 0"]
+        return lines, status
+
+
+class FileRun(Run):
+    """A run of one file: that of a description with its input, the settings that are the default, and lines of JSON."""
+
+    counted = False
+
+    def __init__(self, script, place, out):
+        description = {
+            "input": [{"name": "in", "kind": "file", "path": place}],
+            "output": [{"name": "out", "kind": "json", "path": out}],
+        }
+        super().__init__(script, description, BUILTIN)
 
 
 def begun(script):
-    """The run of a script's description, which has begun."""
+    """The run of a script's call, which has begun."""
+    if script.words[:1] == ["direct"]:
+        return FileRun(script, *script.words[1:])
     if "conf" not in script.texts:
         raise Refused(3, "source fault: conf")
     description = tomllib.loads(script.texts["conf"].decode())

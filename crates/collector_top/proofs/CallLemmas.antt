@@ -1,22 +1,25 @@
 -- What a call promises, from what came and what was said.
-use Rattle.std.proofs.Common.{◌≡◌, ◌≢◌, inl, inr, ℕ, true, false, cond, max, List, [], ◌∷◌, ◌++◌, Option, Some, refl, ap, sym, subst, ◌∙◌, arith, append-nil}
+use Rattle.std.proofs.Common.{◌≡◌, ◌≢◌, inl, inr, ℕ, Bool, true, false, cond, max, List, [], ◌∷◌, ◌++◌, Option, Some, refl, ap, sym, subst, ◌∙◌, arith, append-nil}
 use Rattle.std.specs.Prelude.{Result, Ok, Err, ◌||◌, is_some}
 use Rattle.arrival_spec.specs.declared.event.Scripted.{Scripted}
 use Rattle.site_io.specs.declared.outside.OutsideFault.{OutsideFault}
+use Rattle.site_io.specs.declared.outside.OutsideFault.TheVariants as fault
 use Rattle.site_io.specs.Seen.{Seen, TextSeen, PlaceSeen, SinkSeen, ChangesPlace, ChangesSink, SourceGoesOut, SourceComesBack, SinkGoesOut, SinkComesBack, PlaceRefuses, SinkRefuses}
 use Rattle.words_spec.specs.Commands.{Command}
 use Rattle.words_spec.specs.Commands.Command.{Direct, Check}
 use Rattle.call_spec.specs.declared.end.InputEnd.{InputEnd}
 use Rattle.call_spec.specs.Names.{times, has}
 use Rattle.call_spec.specs.Counts.{TextKept, PlaceKept, SinkKept}
-use Rattle.call_spec.specs.Ends.{source_failed, wants_memory, has_failed, HoldsAs}
+use Rattle.call_spec.specs.declared.end.OutputFault.{OutputFault}
+use Rattle.call_spec.specs.declared.end.OutputFault.TheVariants as output
+use Rattle.call_spec.specs.Ends.{source_failed, wants_memory, has_failed, output_failed, EndsOutput, HoldsAs, HoldsBy}
 use Rattle.call_spec.specs.Came.Came.{BadWords, Fine, Refused}
 use Rattle.call_spec.specs.Came.Came.{Ran as RanCame}
 use Rattle.call_spec.specs.Texts.{Judges}
 use Rattle.call_spec.specs.Lines as lines
 use Rattle.call_spec.specs.Status as codes
-use Rattle.call_spec.specs.Lines.{input_line, sink_line, fine_text, usage_text}
-use Rattle.call_spec.specs.Status.{end_code, fault_code, said_code, wanted_code}
+use Rattle.call_spec.specs.Lines.{input_line, output_line, sink_line, fine_text, usage_text}
+use Rattle.call_spec.specs.Status.{end_code, fault_code, output_code, said_code, wanted_code}
 use Rattle.call_spec.specs.Plan.{in_name, out_name, no_parties, direct_parties}
 use Rattle.call_spec.specs.Plan.Plan.{Nothing, OneFile}
 use Rattle.call_spec.specs.Call.{MayCome, IsOfDirect, Calls}
@@ -29,9 +32,37 @@ use Rattle.described_texts.specs.Read.{reason_of, CountsTexts, KeepsRest}
 use Rattle.described_texts.specs.Reports.{ReportsRefusal}
 use Rattle.described_texts.proofs.KeptLemmas.{still, unsunk, unread, failed_here, failed_away, calls_said, calls_refused, comes_fine, comes_refused}
 use Rattle.run_lines.specs.Says.{Says}
-use Rattle.collector_top.specs.Direct.{refusal_of, unopened_line, unopened_code, one_run, CameToRun, CameToRefusal}
+use Rattle.collector_top.specs.Direct.{refusal_of, unopened_line, unopened_code, output_of, one_run, CameToRun, CameToRefusal}
 use Rattle.call_spec.proofs.NameLemmas.{same_or}
 use Rattle.collector_top.proofs.OpenLemmas.{by_name, marked_here, marked_away, place_back, place_refused, sink_back, sink_refused, place_taken, place_ends, place_left, sink_holds_as, or_none}
+
+-- ---- how the one output ended
+
+output_fails : (f : Option OutsideFault) → output_failed (output_of f) ≡ has_failed f
+output_fails None = refl
+output_fails (Some fault.Failed) = refl
+output_fails (Some fault.NoMemory) = refl
+
+output_says : (name : List ℕ) (f : Option OutsideFault) → output_line name (output_of f) ≡ sink_line name f
+output_says name None = refl
+output_says name (Some fault.Failed) = refl
+output_says name (Some fault.NoMemory) = refl
+
+output_codes : (f : Option OutsideFault) → output_code (output_of f) ≡ fault_code f
+output_codes None = refl
+output_codes (Some fault.Failed) = refl
+output_codes (Some fault.NoMemory) = refl
+
+never_limited : (cut : Bool) (f : Option OutsideFault) → EndsOutput cut (output_of f) ⊥
+never_limited false None = λ e. e
+never_limited true None = tt
+never_limited cut (Some fault.Failed) = tt
+never_limited cut (Some fault.NoMemory) = tt
+
+held_by : (cut : Bool) (f : Option OutsideFault) (old now : Option (List ℕ)) (text : List ℕ) → HoldsAs (is_some f || cut) old now text → HoldsBy cut (output_of f) old now text []
+held_by cut None old now text h = h
+held_by cut (Some fault.Failed) old now text h = h
+held_by cut (Some fault.NoMemory) old now text h = h
 
 module _ {S : Type 0} (left : S → Option (List Scripted)) (faults : S → ℕ) where
   -- ---- direct: before its lines are said
@@ -166,23 +197,22 @@ module _ {S : Type 0} (left : S → Option (List Scripted)) (faults : S → ℕ)
         → CameToRun left faults place out a e ended
     came_to_run place out a b c d e src now_src sink now_sink total ended ch g ch2 h r ch3 back2 ch4 back = (
       r.given,
-      r.beyond,
       record {
         texts = λ p. subst (λ (f : List ℕ → TextSeen). TextKept false (a.text p) (f p)) (sym (ch4.texts ∙ (ch3.texts ∙ (ch2.texts ∙ ch.texts)))) (unread (a.text p));
         places = by_name PlaceKept place (cond (source_failed ended.input) (place ∷ []) []) (source_failed ended.input) a.place e.place still (marked_here place (source_failed ended.input)) (marked_away place (source_failed ended.input))
             (place_back (source_failed ended.input) (a.place place) (b.place place) (d.place place) (e.place place) (left src) (left now_src) (faults src) (faults now_src) g (ap (λ (f : List ℕ → PlaceSeen). f place) (ch3.places ∙ ch2.places)) back r.counts)
             (λ q ne. ch4.others q ne ∙ (ap (λ (f : List ℕ → PlaceSeen). f q) (ch3.places ∙ ch2.places) ∙ ch.others q ne));
-        sinks = λ p. subst (λ (f : List ℕ → SinkSeen). SinkKept (times p (out ∷ [])) (has p (cond (has_failed ended.output) (out ∷ []) [])) (f p) (e.sink p)) ch.sinks
+        sinks = λ p. subst (λ (b : Bool). SinkKept (times p (out ∷ [])) (has p (cond b (out ∷ []) [])) (a.sink p) (e.sink p)) (sym (output_fails ended.output)) (subst (λ (f : List ℕ → SinkSeen). SinkKept (times p (out ∷ [])) (has p (cond (has_failed ended.output) (out ∷ []) [])) (f p) (e.sink p)) ch.sinks
             (subst (λ (f : List ℕ → SinkSeen). SinkKept (times p (out ∷ [])) (has p (cond (has_failed ended.output) (out ∷ []) [])) (b.sink p) (f p)) (sym ch4.sinks)
             (by_name SinkKept out (cond (has_failed ended.output) (out ∷ []) []) (has_failed ended.output) b.sink d.sink unsunk (marked_here out (has_failed ended.output)) (marked_away out (has_failed ended.output))
             (sink_back (has_failed ended.output) (b.sink out) (c.sink out) (c.sink out) (d.sink out) (held sink) (held now_sink) total (sink_faults sink) (sink_faults now_sink) h refl back2 r.sink_counts)
-            (λ q ne. ch3.others q ne ∙ ch2.others q ne) p));
+            (λ q ne. ch3.others q ne ∙ ch2.others q ne) p)));
         leaves = record {
           gave = (
             record {
-              taken = place_taken (a.place place).left (e.place place).left (left src) (left now_src) (r.given ++ r.beyond) g.told back.shown r.taken;
-              unfailed = (r.unfailed.0, r.unfailed.1 ∙ g.fresh, place_taken (a.place place).left (left r.unfailed.0) (left src) (left r.unfailed.0) (r.given ++ r.beyond) g.told refl r.unfailed.2);
-              ends = (place_ends (a.place place).left (e.place place).left (left src) (left now_src) r.given r.beyond ended.input g.told back.shown r.ends, refl, r.built);
+              taken = place_taken (a.place place).left (e.place place).left (left src) (left now_src) r.given g.told back.shown r.taken;
+              unfailed = (r.unfailed.0, r.unfailed.1 ∙ g.fresh, place_taken (a.place place).left (left r.unfailed.0) (left src) (left r.unfailed.0) r.given g.told refl r.unfailed.2);
+              ends = (place_ends (a.place place).left (e.place place).left (left src) (left now_src) r.given ended.input g.told back.shown r.ends, refl);
             },
             tt,
           );
@@ -190,13 +220,14 @@ module _ {S : Type 0} (left : S → Option (List Scripted)) (faults : S → ℕ)
           logged = refl;
           stages = refl;
           holds = (
-            (
-              r.text,
-              r.is,
-              subst (λ x. HoldsAs x (a.sink out).held (e.sink out).held r.text) (or_none (is_some ended.output) (wants_memory ended.input))
+            record {
+              text = r.text;
+              is = r.is;
+              ends = never_limited (wants_memory ended.input || false) ended.output;
+              holds = held_by (wants_memory ended.input || false) ended.output (a.sink out).held (e.sink out).held r.text (subst (λ x. HoldsAs x (a.sink out).held (e.sink out).held r.text) (or_none (is_some ended.output) (wants_memory ended.input))
                   (subst (λ (f : List ℕ → SinkSeen). HoldsAs (is_some ended.output || wants_memory ended.input) (f out).held (e.sink out).held r.text) ch.sinks
-                  (sink_holds_as (is_some ended.output || wants_memory ended.input) (b.sink out).held (e.sink out).held (held sink) (held now_sink) r.text h.nothing h.told (ap (λ (f : List ℕ → SinkSeen). (f out).held) ch4.sinks ∙ back2.shown) r.octets)),
-            ),
+                  (sink_holds_as (is_some ended.output || wants_memory ended.input) (b.sink out).held (e.sink out).held (held sink) (held now_sink) r.text h.nothing h.told (ap (λ (f : List ℕ → SinkSeen). (f out).held) ch4.sinks ∙ back2.shown) r.octets)));
+            },
             tt,
           );
           counted = tt;
@@ -207,8 +238,9 @@ module _ {S : Type 0} (left : S → Option (List Scripted)) (faults : S → ℕ)
 
   -- ---- what was said
 
-  one_line : (e : InputEnd) (f : Option OutsideFault) → input_line in_name e ++ sink_line out_name f ≡ ((input_line in_name e ++ []) ++ ([] ++ ([] ++ (sink_line out_name f ++ [])))) ++ []
-  one_line e f = (ap (λ l. l ++ sink_line out_name f) (sym (append-nil (input_line in_name e))) ∙ ap (λ l. (input_line in_name e ++ []) ++ l) (sym (append-nil (sink_line out_name f)))) ∙ sym (append-nil ((input_line in_name e ++ []) ++ (sink_line out_name f ++ [])))
+  one_line : (e : InputEnd) (f : Option OutsideFault) → input_line in_name e ++ sink_line out_name f ≡ ((input_line in_name e ++ []) ++ ([] ++ ([] ++ (output_line out_name (output_of f) ++ [])))) ++ []
+  one_line e f = subst (λ (l : List ℕ). input_line in_name e ++ sink_line out_name f ≡ ((input_line in_name e ++ []) ++ ([] ++ ([] ++ (l ++ [])))) ++ []) (sym (output_says out_name f))
+      ((ap (λ l. l ++ sink_line out_name f) (sym (append-nil (input_line in_name e))) ∙ ap (λ l. (input_line in_name e ++ []) ++ l) (sym (append-nil (sink_line out_name f)))) ∙ sym (append-nil ((input_line in_name e ++ []) ++ (sink_line out_name f ++ []))))
 
   most : (e f s : ℕ) → max (max e f) s ≡ max (max (max 0 e) (max 0 (max 0 (max 0 f)))) s
   most e f s = omega arith
@@ -217,8 +249,8 @@ module _ {S : Type 0} (left : S → Option (List Scripted)) (faults : S → ℕ)
       → (said : Result (Unit {0}) OutsideFault) × Says b c (input_line in_name ended.input ++ sink_line out_name ended.output) said × (status ≡ max (max (end_code ended.input) (fault_code ended.output)) (said_code said))
       → Calls left faults (Direct place out) a c status
   calls_ran place out ended a b c status k s =
-      calls_said left faults (MayCome (Direct place out)) (OneFile place out) (RanCame (one_run k.0 k.1 ended)) a b c s.0 status (refl, tt) k.2 k.3
-      (subst (λ (t : List ℕ). Says b c t s.0) (one_line ended.input ended.output) s.1) (s.2 ∙ most (end_code ended.input) (fault_code ended.output) (said_code s.0))
+      calls_said left faults (MayCome (Direct place out)) (OneFile place out) (RanCame (one_run k.0 ended)) a b c s.0 status (refl, tt) k.1 k.2
+      (subst (λ (t : List ℕ). Says b c t s.0) (one_line ended.input ended.output) s.1) (s.2 ∙ (most (end_code ended.input) (fault_code ended.output) (said_code s.0) ∙ ap (λ n. max (max (max 0 (end_code ended.input)) (max 0 (max 0 (max 0 n)))) (said_code s.0)) (sym (output_codes ended.output))))
 
   -- the line and the code of a refusal
   refused_line : (place out : List ℕ) (r : Unopened) → unopened_line r ≡ lines.refusal_line (direct_parties place out) (refusal_of r)

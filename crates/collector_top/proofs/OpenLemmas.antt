@@ -79,12 +79,11 @@ place_nothing : (old now left now_left : Option (List Scripted)) → IfSome old 
 place_nothing None now left now_left told shown t = tt
 place_nothing (Some xs) now left now_left told shown t = subst (λ (n : Option (List Scripted)). IsNothingLeft (Some xs) n) (sym shown) (subst (λ (l : Option (List Scripted)). IsNothingLeft l now_left) told t)
 
-pub place_ends : (old now left now_left : Option (List Scripted)) (given beyond : List Scripted) (e : InputEnd) → IfSome old (λ events. left ≡ Some events) → now ≡ now_left → EndsReading left now_left given beyond e → EndsReading old now given beyond e
-place_ends old now left now_left given beyond end.End told shown r = (r.0, place_nothing old now left now_left told shown r.1, r.2)
-place_ends old now left now_left given beyond end.Failed told shown r = r
-place_ends old now left now_left given beyond end.Limit told shown r = r
-place_ends old now left now_left given beyond end.Memory told shown r = r
-place_ends old now left now_left given beyond end.NotBuilt told shown r = r
+pub place_ends : (old now left now_left : Option (List Scripted)) (given : List Scripted) (e : InputEnd) → IfSome old (λ events. left ≡ Some events) → now ≡ now_left → EndsReading left now_left given e → EndsReading old now given e
+place_ends old now left now_left given end.End told shown r = (place_nothing old now left now_left told shown r.0, r.1)
+place_ends old now left now_left given end.Failed told shown r = r
+place_ends old now left now_left given end.Limit told shown r = r
+place_ends old now left now_left given end.Memory told shown r = r
 
 -- what a place has left stays where nothing was asked
 pub place_left : (old now left : Option (List Scripted)) → IfSome old (λ events. left ≡ Some events) → now ≡ left → (events : List Scripted) → old ≡ Some events → now ≡ Some events

@@ -1,9 +1,12 @@
 -- What came of opening and running `direct`, before its lines are said.
 use Rattle.std.specs.Prelude.{ℕ, ◌≡◌, List, [], ◌∷◌, Option, Some, None}
 use Rattle.arrival_spec.specs.declared.event.Scripted.{Scripted}
+use Rattle.site_io.specs.declared.outside.OutsideFault.{OutsideFault}
 use Rattle.site_io.specs.declared.outside.OutsideFault.TheVariants as fault
 use Rattle.site_io.specs.Seen.{Seen}
 use Rattle.call_spec.specs.declared.end.InputEnd.TheVariants as end
+use Rattle.call_spec.specs.declared.end.OutputFault.{OutputFault}
+use Rattle.call_spec.specs.declared.end.OutputFault.TheVariants as output
 use Rattle.call_spec.specs.Came.{Refusal, RunCame}
 use Rattle.call_spec.specs.Came.Refusal.{NoSource, NoOutput, NoMemory}
 use Rattle.call_spec.specs.Came.Came.{Refused, Ran}
@@ -32,21 +35,27 @@ unopened_code unopened.NoSource = 3
 unopened_code unopened.NoSink = 4
 unopened_code unopened.Memory = 6
 
+-- why the output ended, which meets no limit
+abbrev pub output_of : Option OutsideFault → Option OutputFault
+output_of None = None
+output_of (Some fault.Failed) = Some output.Failed
+output_of (Some fault.NoMemory) = Some output.NoMemory
+
 -- a run in which the one input gave these events, and the one output ended so; no order is told, and nothing is counted
-abbrev pub one_run : List Scripted → List Scripted → Ended → RunCame
-one_run given beyond ended = record {
-  inputs = record { given = given; beyond = beyond; end = ended.input; failed = source_failed ended.input } ∷ [];
+abbrev pub one_run : List Scripted → Ended → RunCame
+one_run given ended = record {
+  inputs = record { given = given; end = ended.input; failed = source_failed ended.input } ∷ [];
   order = [];
   log = None;
   stages = [];
-  outputs = ended.output ∷ [];
+  outputs = output_of ended.output ∷ [];
   counts = nothing_counted;
 }
 
 module _ {S : Type 0} (left : S → Option (List Scripted)) (faults : S → ℕ) where
   -- a run came to this end
   abbrev pub CameToRun : List ℕ → List ℕ → Seen → Seen → Ended → Type 0
-  CameToRun place out old new ended = (given : List Scripted) × (beyond : List Scripted) × Comes left faults (OneFile place out) (Ran (one_run given beyond ended)) old new × (new.say ≡ old.say)
+  CameToRun place out old new ended = (given : List Scripted) × Comes left faults (OneFile place out) (Ran (one_run given ended)) old new × (new.say ≡ old.say)
 
   -- a refusal came
   abbrev pub CameToRefusal : List ℕ → List ℕ → Seen → Seen → Unopened → Type 0
