@@ -113,6 +113,11 @@ pages_are_as_the_code() {
     wants pages "$("$here/tests/pages.py")" "the pages are as the code is"
 }
 
+conformance_names_what_is_there() {
+    needs python3 || return
+    "$here/tests/names.py" "$here/../docs/CONFORMANCE.md" > names.txt || tell "$(cat names.txt)"
+}
+
 units_are_hardened() {
     needs systemd-analyze || return
     for unit in ipfixcol.service ipfixcol-health.service ipfixcol-lines.service; do
@@ -335,7 +340,7 @@ package_is_lintian_clean() {
     lintian --fail-on error --allow-root "$package" > lintian.txt 2>&1 || tell "$(grep '^E:' lintian.txt)"
 }
 
-for one in pages_are_clean pages_are_as_the_code units_are_hardened outputs_are_set_aside three_starts_keep_all \
+for one in pages_are_clean pages_are_as_the_code conformance_names_what_is_there units_are_hardened outputs_are_set_aside three_starts_keep_all \
     rotation_loses_nothing rotation_cuts_at_lines logrotate_cuts_without_a_hole health_tells_troubles progress_tells_how_far \
     package_installs package_is_lintian_clean; do
     try "$one"
