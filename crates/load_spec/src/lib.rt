@@ -2,9 +2,11 @@
 //! laws and examples, each as the contract of an empty function.
 #![tactic(auto)]
 
+mod draws;
 mod example;
 mod stream;
 
+pub use draws::draws_go_on;
 pub use example::{
     templates_come_every_250_messages_of_a_domain, the_first_events_are_these,
     the_last_message_is_of_domain_4, the_octets_of_a_state_are_these,
