@@ -61,27 +61,21 @@ def events_of(number, count):
     yield "Closed", 0, b""
 
 
-def digest_of(octets, digest):
-    """FNV-1a of 64 bits, gone on with."""
-    for octet in octets:
-        digest = (digest ^ octet) * 0x100000001B3 % 2**64
-    return digest
-
-
 def show(number, count):
     print(f"load {number} {count}")
-    messages, size, total, digest = 0, 0, 0, 0xCBF29CE484222325
+    messages, size, total, totals = 0, 0, 0, 0
     for kind, connection, octets in events_of(number, count):
         if kind != "Bytes":
-            print(f"{kind} {connection}")
+            print(f"{kind}({connection})")
             continue
         if messages in SHOWN or messages + 1 == count:
             print(f"{messages} {octets.hex()}")
         messages += 1
         size += len(octets)
-        total += sum(octets)
-        digest = digest_of(octets, digest)
-    print(f"{messages} messages of {size} octets, sum {total}, digest {digest}")
+        for octet in octets:
+            total += octet
+            totals += total
+    print(f"{messages} messages of {size} octets, sum {total}, sum of sums {totals % 2**64}")
 
 
 def state_before(number, i):
