@@ -1,5 +1,5 @@
 -- One draw more.
-use Rattle.std.proofs.Common.{◌≡◌, ℕ, suc, ◌+◌, ◌<◌, List, [], ◌∷◌, ◌++◌, length, take, set, ap, sym, ◌∙◌}
+use Rattle.std.proofs.Common.{◌≡◌, ℕ, ◌+◌, ◌<◌, List, [], ◌∷◌, ◌++◌, length, take, set, ap, sym, ◌∙◌}
 use Rattle.std.proofs.lemmas.List.{take_more_set}
 use Rattle.load_spec.specs.Draws.{next_state, octet_in, state_after, draws}
 use Rattle.load_spec.proofs.DrawLemmas.{state_joined, draws_joined}

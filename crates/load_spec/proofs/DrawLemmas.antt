@@ -1,5 +1,5 @@
 -- Draws after draws.
-use Rattle.std.proofs.Common.{◌≡◌, ℕ, zero, suc, ◌+◌, List, [], ◌∷◌, ◌++◌, length, refl, ap, ◌∙◌, zero-add, arith}
+use Rattle.std.proofs.Common.{◌≡◌, ℕ, zero, suc, ◌+◌, ◌∷◌, ◌++◌, length, refl, ap, ◌∙◌, zero-add, arith}
 use Rattle.load_spec.specs.Draws.{next_state, octet_in, state_after, draws}
 
 pub state_joined : (n m x : ℕ) → state_after (n + m) x ≡ state_after m (state_after n x)

@@ -1,1 +1,3 @@
 pub mod DrawLemmas
+pub mod SaidLemmas
+pub mod StreamLemmas

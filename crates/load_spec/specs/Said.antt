@@ -1,0 +1,30 @@
+-- What generated messages say, and their records.
+use Rattle.std.specs.Prelude.{ℕ, zero, suc, ◌+◌, ◌*◌, ◌%◌, ◌==◌, if◌then◌else◌, List, [], ◌∷◌, ◌++◌, map}
+use Rattle.wire_spec.specs.Content.{Message, Part}
+use Rattle.wire_spec.specs.Content.Part.{Touches, Body}
+use Rattle.wire_spec.specs.Content.Touch.{Define}
+use Rattle.arrival_spec.specs.Numbers.{first_numbers}
+use Rattle.load_spec.specs.Draws.{state_after, draws}
+use Rattle.load_spec.specs.Load.{defined_as, draws_before, fields_at, place_in_domain, records_size_at}
+
+-- the set of template records of a domain's message at place q, if it has one
+abbrev pub template_part_at : ℕ → List Part
+template_part_at q = if q % 250 == 0 then Touches (Define 256 (defined_as (fields_at q)) ∷ []) ∷ [] else []
+
+-- what message i says where its records are drawn from a state
+abbrev pub message_said : ℕ → ℕ → Message
+message_said x i = record {
+  export = 1000 + i;
+  sequence = 4 * place_in_domain i;
+  domain = 1 + i % 4;
+  parts = template_part_at (place_in_domain i) ++ Body 256 (draws (records_size_at (place_in_domain i)) x) ∷ [];
+}
+
+-- what the messages of a number say
+abbrev pub messages_said : ℕ → ℕ → List Message
+messages_said number count = map (λ i. message_said (state_after (draws_before i) number) i) (first_numbers count)
+
+-- so many records of a size, one drawn behind another
+abbrev pub records_drawn : ℕ → ℕ → ℕ → List (List ℕ)
+records_drawn zero size x = []
+records_drawn (suc n) size x = draws size x ∷ records_drawn n size (state_after size x)
