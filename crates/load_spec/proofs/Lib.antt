@@ -1,3 +1,4 @@
+pub mod CountLemmas
 pub mod DrawLemmas
 pub mod SaidLemmas
 pub mod StreamLemmas

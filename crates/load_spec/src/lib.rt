@@ -2,11 +2,13 @@
 //! laws and examples, each as the contract of an empty function.
 #![tactic(auto)]
 
+mod counts;
 mod draws;
 mod example;
 mod message;
 mod stream;
 
+pub use counts::generated_messages_are_counted;
 pub use draws::draws_go_on;
 pub use example::{
     templates_come_every_250_messages_of_a_domain, the_first_events_are_these,
