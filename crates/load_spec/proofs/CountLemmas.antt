@@ -15,7 +15,7 @@ use Rattle.count_spec.specs.Run.{AreCounts}
 use Rattle.count_spec.specs.Examples.{nothing_counted}
 use Rattle.load_spec.specs.Draws.{state_after}
 use Rattle.load_spec.specs.Load.{draws_before, load_events, load_message, load_messages}
-use Rattle.load_spec.specs.Said.{message_said, messages_said}
+use Rattle.load_spec.specs.Said.{message_said, load_said}
 use Rattle.load_spec.proofs.SaidLemmas.{message_is}
 
 -- messages are read, and then others
@@ -31,9 +31,9 @@ abbrev nine_counted : Counts
 nine_counted = record nothing_counted { sessions = 1; messages = 9; records = 36 }
 
 abbrev nine_read : Transport → ℕ → List ReadArrival
-nine_read transport number = SessionOpen (key_of 0 0) transport ∷ (map (λ m. Raw (key_of 0 0) (Ok m)) (messages_said number 9) ++ SessionClose (key_of 0 0) ∷ [])
+nine_read transport number = SessionOpen (key_of 0 0) transport ∷ (map (λ m. Raw (key_of 0 0) (Ok m)) (load_said number 9) ++ SessionClose (key_of 0 0) ∷ [])
 
-are_read : (number : ℕ) → AreReadAs (map (Raw (key_of 0 0)) (load_messages number 9) ++ SessionClose (key_of 0 0) ∷ []) (map (λ m. Raw (key_of 0 0) (Ok m)) (messages_said number 9) ++ SessionClose (key_of 0 0) ∷ [])
+are_read : (number : ℕ) → AreReadAs (map (Raw (key_of 0 0)) (load_messages number 9) ++ SessionClose (key_of 0 0) ∷ []) (map (λ m. Raw (key_of 0 0) (Ok m)) (load_said number 9) ++ SessionClose (key_of 0 0) ∷ [])
 are_read number = read_each (key_of 0 0) number (first_numbers 9) (SessionClose (key_of 0 0) ∷ []) (SessionClose (key_of 0 0) ∷ []) (refl, tt)
 
 pub file_counted : (number : ℕ) → AreCounts (all_over File) (load_events number 9 ∷ []) (record nothing_counted { sessions = 1; messages = 9; records = 36 })

@@ -14,20 +14,20 @@ use Rattle.file_spec.specs.Said.{AreSaid}
 use Rattle.file_spec.proofs.CutLemmas.{all_framed}
 use Rattle.load_spec.specs.Draws.{state_after}
 use Rattle.load_spec.specs.Load.{draws_before, load_events, load_messages, load_message}
-use Rattle.load_spec.specs.Said.{message_said, messages_said}
+use Rattle.load_spec.specs.Said.{message_said, load_said}
 use Rattle.load_spec.proofs.SaidLemmas.{message_is}
 
 said_each : (number : ℕ) (numbers : List ℕ) → AreSaid (map (load_message number) numbers) (map (λ i. message_said (state_after (draws_before i) number) i) numbers)
 said_each number [] = tt
 said_each number (i ∷ numbers) = (message_is (state_after (draws_before i) number) i, said_each number numbers)
 
-pub all_say : (number count : ℕ) → AreSaid (load_messages number count) (messages_said number count)
+pub all_say : (number count : ℕ) → AreSaid (load_messages number count) (load_said number count)
 all_say number count = said_each number (first_numbers count)
 
 pub all_cut : (number count : ℕ) → IsCut (concat (load_messages number count)) (load_messages number count) []
 all_cut number count = record {
   whole = sym (append-nil (concat (load_messages number count)));
-  each = all_framed (load_messages number count) (messages_said number count) (all_say number count);
+  each = all_framed (load_messages number count) (load_said number count) (all_say number count);
   ends = refl;
 }
 

@@ -21,8 +21,8 @@ message_said x i = record {
 }
 
 -- what the messages of a number say
-abbrev pub messages_said : ℕ → ℕ → List Message
-messages_said number count = map (λ i. message_said (state_after (draws_before i) number) i) (first_numbers count)
+abbrev pub load_said : ℕ → ℕ → List Message
+load_said number count = map (λ i. message_said (state_after (draws_before i) number) i) (first_numbers count)
 
 -- so many records of a size, one drawn behind another
 abbrev pub records_drawn : ℕ → ℕ → ℕ → List (List ℕ)
