@@ -1,5 +1,5 @@
 -- What generated messages say, and their records.
-use Rattle.std.specs.Prelude.{ℕ, zero, suc, ◌+◌, ◌*◌, ◌%◌, ◌==◌, if◌then◌else◌, List, [], ◌∷◌, ◌++◌, map}
+use Rattle.std.specs.Prelude.{ℕ, zero, suc, ◌≡◌, ◌<◌, ◌≤◌, ◌+◌, ◌*◌, ◌%◌, ◌==◌, if◌then◌else◌, List, [], ◌∷◌, ◌++◌, map}
 use Rattle.wire_spec.specs.Content.{Message, Part}
 use Rattle.wire_spec.specs.Content.Part.{Touches, Body}
 use Rattle.wire_spec.specs.Content.Touch.{Define}
@@ -28,3 +28,9 @@ load_said number count = map (λ i. message_said (state_after (draws_before i) n
 abbrev pub records_drawn : ℕ → ℕ → ℕ → List (List ℕ)
 records_drawn zero size x = []
 records_drawn (suc n) size x = draws size x ∷ records_drawn n size (state_after size x)
+
+-- Of a domain the message at place p defines the fields of the message at place q, and none between them has a template.
+pub record WasDefinedLast (p q : ℕ) : Type 0 where
+  pub before : p ≤ q
+  pub defines : template_part_at p ≡ Touches (Define 256 (defined_as (fields_at q)) ∷ []) ∷ []
+  pub none_between : (r : ℕ) → p < r → r ≤ q → template_part_at r ≡ []

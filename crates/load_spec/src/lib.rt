@@ -14,5 +14,5 @@ pub use example::{
     templates_come_every_250_messages_of_a_domain, the_first_events_are_these,
     the_last_message_is_of_domain_4, the_octets_of_a_state_are_these,
 };
-pub use message::a_generated_message_says_four_records;
+pub use message::{a_generated_message_says_four_records, fields_are_those_that_were_defined_last};
 pub use stream::generated_events_are_one_stream;
