@@ -1,0 +1,5 @@
+pub mod CountLemmas
+pub mod DrawLemmas
+pub mod LastLemmas
+pub mod SaidLemmas
+pub mod StreamLemmas

@@ -1,0 +1,4 @@
+pub mod Draws
+pub mod Load
+pub mod Said
+pub mod Examples
