@@ -1,6 +1,7 @@
--- What came of the log of a run, and of the sink of its output, by their names.
-use Rattle.std.proofs.Common.{◌≡◌, ℕ, ◌≤◌, Bool, false, List, [], ◌∷◌, ◌++◌, Option, Some, None, length, take, map, refl, ap, sym, subst, ◌∙◌, arith, append-nil, append_assoc}
-use Rattle.std.specs.Prelude.{MatchOption, is_some, nat_lt}
+-- What came of the log of a run, and of the sinks of its outputs, by their names.
+use Rattle.std.proofs.Common.{◌≡◌, ℕ, suc, ◌≤◌, Bool, false, List, [], ◌∷◌, ◌++◌, Option, Some, None, length, take, map, refl, ap, sym, subst, ◌∙◌, arith, append-nil, append_assoc}
+use Rattle.std.specs.Prelude.{MatchOption, is_some, nat_lt, option_to_list}
+use Rattle.std.proofs.lemmas.List.{length-map}
 use Rattle.site_io.specs.Seen.{SinkSeen}
 use Rattle.site_io.specs.Writes.{Grows}
 use Rattle.site_io.specs.declared.outside.OutsideFault.{OutsideFault}
@@ -10,14 +11,16 @@ use Rattle.call_spec.specs.Leaves.{beside, log_and}
 use Rattle.call_spec.specs.Log.{entry_octets, log_text}
 use Rattle.call_spec.specs.Names.{times}
 use Rattle.call_spec.specs.Pairs.{Each}
+use Rattle.call_spec.proofs.PairLemmas.{renumber, same_length}
 use Rattle.order_log.specs.declared.order_log.OrderLog.{OrderLog}
 use Rattle.order_log.specs.Entries.{HasEntries, Stands}
+use Rattle.logged_outputs.specs.declared.output.Output.{Output}
 use Rattle.logged_outputs.specs.Entries.{Entry, order_of}
 use Rattle.logged_outputs.specs.Logs.{LogTook, next_of}
 use Rattle.site_openings.specs.Out.{AreDistinct, Begins, CameBack, Shows, WentOut}
 use Rattle.site_openings.specs.Sinks.{nothing_held, sink_faults, sink_held, sink_openings, sink_out}
 use Rattle.run_came.specs.Ends.{log_fault}
-use Rattle.run_came.specs.Ran.{AreNewOver, log_sinks}
+use Rattle.run_came.specs.Ran.{IsNewLog, log_sinks, output_sinks}
 use Rattle.run_came.proofs.InputLemmas.{counted_failed}
 
 -- a name whose sink went out and came back
@@ -71,13 +74,14 @@ log_held None front (x ∷ rest) o m was now ends f h = absurd cc
 log_held (Some fault) front [] o m was now ends f h = absurd cc
 log_held (Some fault) front (x ∷ rest) o m was now ends f h = (x, rest, refl, (h.0, h.1, holds_at o m was now (log_text (order_of front) ++ take h.0 (entry_octets x.input)) f h.2))
 
--- what came of the log and the sinks, where the log's name is this, and the output's sink was so
-pub record SinksCame {K : Type 0} (held : K → Option (List ℕ)) (faults : K → ℕ) (path : Option (List ℕ)) (at : List ℕ) (front rest : List Entry) (log : Option (OrderLog K)) (first sink : K) (b e : List ℕ → SinkSeen) : Type 0 where
+-- what came of the log and of the outputs behind it, whose names and sinks stand side by side
+pub record SinksCame {T K : Type 0} (held : K → Option (List ℕ)) (faults : K → ℕ) (names : List (List ℕ)) (path : Option (List ℕ)) (ats : List (List ℕ)) (front rest : List Entry) (log : Option (OrderLog K)) (firsts nows : List (Output T K))
+    (b e : List ℕ → SinkSeen) : Type 0 where
   pub logged : MatchOption path (log_fault log ≡ None) (λ p. LogHeld (log_fault log) front rest (b p).held (e p).held)
   pub none_left : is_some (log_fault log) ≡ false → rest ≡ []
-  pub told : Told (b at).held (e at).held (held first) (held sink)
-  pub fresh : faults first ≡ 0
-  pub marks : (own : Option OutsideFault) → nat_lt 0 (faults sink) ≡ has_failed own → map (λ t. nat_lt 0 (faults t)) (log_sinks log ++ sink ∷ []) ≡ map has_failed (beside path (log_fault log) (own ∷ []))
+  pub began : Each (Begins sink_held sink_faults sink_openings sink_out held faults nothing_held b) 0 ats (output_sinks firsts)
+  pub shown : Each (λ k name sink. Shows sink_held sink_faults sink_openings sink_out held faults names e k name sink × (1 ≤ times name names)) 0 ats (output_sinks nows)
+  pub marks : (own : List Bool) → map (λ t. nat_lt 0 (faults t)) (output_sinks nows) ≡ own → map (λ t. nat_lt 0 (faults t)) (log_sinks log ++ output_sinks nows) ≡ beside path (has_failed (log_fault log)) own
 
 module _ {K : Type 0} (held : K → Option (List ℕ)) (faults : K → ℕ) where
   no_log : (front rest : List Entry) (old new : Option (OrderLog K)) → old ≡ None → LogTook held faults front rest old new → (new ≡ None) × (rest ≡ [])
@@ -108,60 +112,57 @@ module _ {K : Type 0} (held : K → Option (List ℕ)) (faults : K → ℕ) wher
       let same : f ≡ made = cc in
       (m, refl, since front rest a made m s (subst (λ (x : OrderLog K). Stands held faults x.sink (order_of front) (next_of rest) m) same l))
 
-  -- there are as many sinks as before
-  pub as_many : (front rest : List Entry) (sinks : List K) (old new : Option (OrderLog K)) (first sink : K) → AreNewOver held faults sinks old first → LogTook held faults front rest old new → length (log_sinks new ++ sink ∷ []) ≡ length sinks
-  as_many front rest [] old new first sink is l = absurd is
-  as_many front rest (a ∷ []) old new first sink is l = ap (λ (x : Option (OrderLog K)). length (log_sinks x ++ sink ∷ [])) (no_log front rest old new is.0 l).0
-  as_many front rest (a ∷ (c ∷ [])) old new first sink is l = ap (λ (x : Option (OrderLog K)). length (log_sinks x ++ sink ∷ [])) (a_log front rest a is.0.0 old new is.0.1 is.0.2 l).1
-  as_many front rest (a ∷ (c ∷ (d ∷ more))) old new first sink is l = absurd is
+  new_log : (front rest : List Entry) (a : K) (old new : Option (OrderLog K)) → IsNewLog held faults (Some a) old → LogTook held faults front rest old new → (now : OrderLog K) × (new ≡ Some now) × Stands held faults a (order_of front) (next_of rest) now
+  new_log front rest a old new is l = a_log front rest a is.0 old new is.1 is.2 l
 
-  module _ (names : List (List ℕ)) (distinct : AreDistinct names) (front rest : List Entry) (b e : List ℕ → SinkSeen) where
+  -- there are as many sinks as before
+  pub as_many : {T : Type 0} (front rest : List Entry) (log_sink : Option K) (old new : Option (OrderLog K)) (firsts nows : List (Output T K)) → length nows ≡ length firsts → IsNewLog held faults log_sink old → LogTook held faults front rest old new
+      → length (log_sinks new ++ output_sinks nows) ≡ length (option_to_list log_sink ++ output_sinks firsts)
+  as_many {T} front rest None old new firsts nows long is l =
+      ap (λ (x : Option (OrderLog K)). length (log_sinks x ++ output_sinks nows)) (no_log front rest old new is l).0
+      ∙ (length-map nows (λ (o : Output T K). o.sink) ∙ (long ∙ sym (length-map firsts (λ (o : Output T K). o.sink))))
+  as_many {T} front rest (Some a) old new firsts nows long is l =
+      ap (λ (x : Option (OrderLog K)). length (log_sinks x ++ output_sinks nows)) (new_log front rest a old new is l).1
+      ∙ ap suc (length-map nows (λ (o : Output T K). o.sink) ∙ (long ∙ sym (length-map firsts (λ (o : Output T K). o.sink))))
+
+  module _ {T : Type 0} (names : List (List ℕ)) (distinct : AreDistinct names) (front rest : List Entry) (b e : List ℕ → SinkSeen) (ats : List (List ℕ)) (firsts nows : List (Output T K)) (few : length ats ≡ length firsts) where
     abbrev Began : ℕ → List ℕ → K → Type 0
     Began k name first = Begins sink_held sink_faults sink_openings sink_out held faults nothing_held b k name first
 
     abbrev Shown : ℕ → List ℕ → K → Type 0
     Shown k name sink = Shows sink_held sink_faults sink_openings sink_out held faults names e k name sink × (1 ≤ times name names)
 
-    told_of : (k m : ℕ) (name : List ℕ) (first sink : K) → Began k name first → Shown m name sink → Told (b name).held (e name).held (held first) (held sink)
+    pub told_of : (k m : ℕ) (name : List ℕ) (first sink : K) → Began k name first → Shown m name sink → Told (b name).held (e name).held (held first) (held sink)
     told_of k m name first sink g s octets is = (g.0 octets is, s.0 (let d = distinct name in let l = s.1 in omega arith))
 
-    without_log : (at : List ℕ) (a : K) (old new : Option (OrderLog K)) (first sink : K) → Began 0 at a → (old ≡ None) × (first ≡ a) → LogTook held faults front rest old new → Each Shown 0 (at ∷ []) (log_sinks new ++ sink ∷ [])
-        → SinksCame held faults None at front rest new first sink b e
-    without_log at a old new first sink g is l s =
-        let n = no_log front rest old new is.0 l in
-        let shown : Each Shown 0 (at ∷ []) (sink ∷ []) = subst (λ (x : Option (OrderLog K)). Each Shown 0 (at ∷ []) (log_sinks x ++ sink ∷ [])) n.0 s in
-        subst (λ (x : Option (OrderLog K)). SinksCame held faults None at front rest x first sink b e) (sym n.0)
-        (subst (λ (x : K). SinksCame held faults None at front rest None x sink b e) (sym is.1)
+    own_long : length (output_sinks firsts) ≡ length ats
+    own_long = length-map firsts (λ (o : Output T K). o.sink) ∙ sym few
+
+    pub sinks_came : (path : Option (List ℕ)) (log_sink : Option K) (old new : Option (OrderLog K)) → Each Began 0 (log_and path ats) (option_to_list log_sink ++ output_sinks firsts) → IsNewLog held faults log_sink old → LogTook held faults front rest old new
+        → Each Shown 0 (log_and path ats) (log_sinks new ++ output_sinks nows) → SinksCame held faults names path ats front rest new firsts nows b e
+    sinks_came None None old new g is l s =
+        let n = no_log front rest old new is l in
+        subst (λ (x : Option (OrderLog K)). SinksCame held faults names None ats front rest x firsts nows b e) (sym n.0)
         (record {
           logged = refl;
           none_left = λ _. n.1;
-          told = told_of 0 0 at a sink g shown.0;
-          fresh = g.1;
-          marks = λ own m. ap (λ x. x ∷ []) m;
-        }))
-
-    with_log : (path at : List ℕ) (a c : K) (old new : Option (OrderLog K)) (first sink : K) → Began 0 path a → Began 1 at c → ((made : OrderLog K) × (old ≡ Some made) × Stands held faults a [] None made) × (first ≡ c) → LogTook held faults front rest old new
-        → Each Shown 0 (path ∷ (at ∷ [])) (log_sinks new ++ sink ∷ []) → SinksCame held faults (Some path) at front rest new first sink b e
-    with_log path at a c old new first sink ga gc is l s =
-        let n = a_log front rest a is.0.0 old new is.0.1 is.0.2 l in
+          began = g;
+          shown = subst (λ (x : Option (OrderLog K)). Each Shown 0 ats (log_sinks x ++ output_sinks nows)) n.0 s;
+          marks = λ own m. m;
+        })
+    sinks_came None (Some a) old new g is l s =
+        absurd (let long : length ats ≡ suc (length (output_sinks firsts)) = same_length Began 0 ats (a ∷ output_sinks firsts) g in let own = own_long in omega (arith, long, own))
+    sinks_came (Some path) None old new g is l s =
+        absurd (let long : suc (length ats) ≡ length (output_sinks firsts) = same_length Began 0 (path ∷ ats) (output_sinks firsts) g in let own = own_long in omega (arith, long, own))
+    sinks_came (Some path) (Some a) old new g is l s =
+        let n = new_log front rest a old new is l in
         let now = n.0 in
-        let shown : Each Shown 0 (path ∷ (at ∷ [])) (now.sink ∷ (sink ∷ [])) = subst (λ (x : Option (OrderLog K)). Each Shown 0 (path ∷ (at ∷ [])) (log_sinks x ++ sink ∷ [])) n.1 s in
-        subst (λ (x : Option (OrderLog K)). SinksCame held faults (Some path) at front rest x first sink b e) (sym n.1)
-        (subst (λ (x : K). SinksCame held faults (Some path) at front rest (Some now) x sink b e) (sym is.1)
+        let both : Each Shown 0 (path ∷ ats) (now.sink ∷ output_sinks nows) = subst (λ (x : Option (OrderLog K)). Each Shown 0 (path ∷ ats) (log_sinks x ++ output_sinks nows)) n.1 s in
+        subst (λ (x : Option (OrderLog K)). SinksCame held faults names (Some path) ats front rest x firsts nows b e) (sym n.1)
         (record {
-          logged = log_held now.fault front rest (b path).held (e path).held (held a) (held now.sink) n.2.ended (told_of 0 0 path a now.sink ga shown.0) n.2.entries;
+          logged = log_held now.fault front rest (b path).held (e path).held (held a) (held now.sink) n.2.ended (told_of 0 0 path a now.sink g.0 both.0) n.2.entries;
           none_left = λ none. none_next rest (none_of (next_of rest) (sym n.2.ended ∙ none));
-          told = told_of 1 1 at c sink gc shown.1.0;
-          fresh = gc.1;
-          marks = λ own m. let own_log = counted_failed (has_failed now.fault) (faults a) (faults now.sink) ga.1 n.2.counts in λ i. own_log i ∷ (m i ∷ []);
-        }))
-
-    pub sinks_came : (path : Option (List ℕ)) (at : List ℕ) (sinks : List K) (old new : Option (OrderLog K)) (first sink : K) → Each Began 0 (log_and path (at ∷ [])) sinks → AreNewOver held faults sinks old first → LogTook held faults front rest old new
-        → Each Shown 0 (log_and path (at ∷ [])) (log_sinks new ++ sink ∷ []) → SinksCame held faults path at front rest new first sink b e
-    sinks_came None at [] old new first sink g is l s = absurd g
-    sinks_came None at (a ∷ []) old new first sink g is l s = without_log at a old new first sink g.0 is l s
-    sinks_came None at (a ∷ (c ∷ sinks)) old new first sink g is l s = absurd g.1
-    sinks_came (Some path) at [] old new first sink g is l s = absurd g
-    sinks_came (Some path) at (a ∷ []) old new first sink g is l s = absurd g.1
-    sinks_came (Some path) at (a ∷ (c ∷ [])) old new first sink g is l s = with_log path at a c old new first sink g.0 g.1.0 is l s
-    sinks_came (Some path) at (a ∷ (c ∷ (d ∷ sinks))) old new first sink g is l s = absurd is
+          began = renumber (Began 0) 1 0 ats (output_sinks firsts) g.1;
+          shown = renumber (Shown 0) 1 0 ats (output_sinks nows) both.1;
+          marks = λ own m. let own_log = counted_failed (has_failed now.fault) (faults a) (faults now.sink) g.0.1 n.2.counts in λ i. own_log i ∷ m i;
+        })

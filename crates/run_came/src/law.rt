@@ -21,11 +21,12 @@ ghost use Rattle.run_came.specs.Told.{CameToRun, IsNoted, TellsRun};
 
 use message_texts::MessageTexts;
 
-/// A run of a description with one output came to what a call promises of a run, and what is told of it is what was noted.
+/// A run of a description, for each of whose outputs there is a maker of texts, came to what a call promises of a run, and
+/// what is told of it is what was noted.
 pub fn what_ran_over_a_site_came_to_it<S, T: MessageTexts, K>()
-    ensures { (left : S → Option (List Scripted)) (faults : S → ℕ) (held : K → Option (List ℕ)) (sink_faults : K → ℕ)
-        (conf : Conf) (texts : T) (xs : List (Input S)) (taker : LoggedOutputs T K) (ended : Ended) (old new : Seen) → length conf.outputs ≡ 1 → AreDistinct (sink_names (described_parties conf))
-        → RanOver left faults T.stands held sink_faults conf texts xs taker old new → IsNoted (length conf.stages) xs taker ended → CameToRun left faults T.stands conf texts ended old new }
+    ensures { (left : S → Option (List Scripted)) (faults : S → ℕ) (held : K → Option (List ℕ)) (total : K → Option ℕ) (sink_faults : K → ℕ)
+        (conf : Conf) (texts : List T) (xs : List (Input S)) (taker : LoggedOutputs T K) (ended : Ended) (old new : Seen) → length texts ≡ length conf.outputs → AreDistinct (sink_names (described_parties conf))
+        → RanOver left faults T.stands held total sink_faults conf texts xs taker old new → IsNoted (length conf.stages) xs taker ended → CameToRun left faults T.stands conf texts ended old new }
 {}
 
 /// The lines and the status of how a run ended are those of the run that is told of.
