@@ -1,11 +1,11 @@
 // How a run ended: room for that, and notes of it.
-ghost use Rattle.std.specs.Prelude.{◌≡◌, ℕ, IfOk, false, length, replicate};
-ghost use Rattle.run_came.specs.Ends.{log_fault, own_fault, wanting};
+ghost use Rattle.std.specs.Prelude.{◌≡◌, ℕ, IfOk, false, length, map, replicate};
+ghost use Rattle.run_came.specs.Ends.{log_fault, wanting};
 ghost use Rattle.run_came.specs.Told.{IsNoted};
 
-use call_spec::InputEnd;
+use call_spec::{InputEnd, OutputFault};
 use config_spec::Conf;
-use logged_outputs::{LoggedOutputs, OutputFault};
+use logged_outputs::{LoggedOutputs, Output};
 use message_texts::MessageTexts;
 use order_log::OrderLog;
 use pipeline_message::RunCounts;
@@ -40,40 +40,40 @@ fn log_fault<K: Sink>(log: &Option<OrderLog<K>>) -> Option<OutsideFault>
     }
 }
 
-/// Why an output ended by itself: not where an intermediate wanted memory.
-fn own_fault(fault: Option<OutputFault>) -> Option<OutsideFault>
-    ensures { result ≡ own_fault fault }
-{
-    match fault {
-        None | Some(OutputFault::Stage(_)) => None,
-        Some(OutputFault::Output(fault)) => Some(fault),
-    }
-}
-
 /// Notes which intermediate wanted memory, if one did, where none is noted yet.
-fn note_stage(fault: Option<OutputFault>, stages: &mut Vec<bool>)
-    ensures { (count : ℕ) → stages.old.items ≡ replicate count false → stages.new.items ≡ wanting count fault }
+fn note_stage(wants: Option<usize>, stages: &mut Vec<bool>)
+    ensures { (count : ℕ) → stages.old.items ≡ replicate count false → stages.new.items ≡ wanting count wants }
 {
-    if let Some(OutputFault::Stage(index)) = fault {
+    if let Some(index) = wants {
         if index < stages.len() {
             stages[index] = true;
         }
     }
 }
 
-/// Notes how the inputs, the log, the intermediates and the output of a run ended, and what was counted. It takes no memory.
+/// Notes why each output ended, if it did.
+fn note_outputs<T, K>(outputs: &[Output<T, K>], faults: &mut Vec<Option<OutputFault>>)
+    requires { length faults.old.items ≡ length outputs.now }
+    ensures { faults.new.items ≡ map (λ o. o.fault) outputs.now }
+{
+    for index in 0..outputs.len() {
+        faults[index] = outputs[index].fault;
+    }
+}
+
+/// Notes how the inputs, the log, the intermediates and the outputs of a run ended, and what was counted. It takes no memory.
 pub fn note_all<S: Source, T: MessageTexts, K: Sink>(
     inputs: &[Input<S>],
     taker: &LoggedOutputs<T, K>,
     ended: &mut Ended,
 )
     requires inputs { length ended.old.inputs.items ≡ length inputs.now }
-    requires outputs { length ended.old.outputs.items ≡ 1 }
+    requires outputs { length ended.old.outputs.items ≡ length taker.now.outputs.outputs.items }
     ensures { (count : ℕ) → ended.old.stages.items ≡ replicate count false → IsNoted count inputs.now taker.now ended.new }
 {
     note_ends(inputs, &mut ended.inputs);
     ended.log = log_fault(&taker.log);
-    note_stage(taker.output.fault, &mut ended.stages);
-    ended.outputs[0] = own_fault(taker.output.fault);
+    note_stage(taker.outputs.wanting, &mut ended.stages);
+    note_outputs(&taker.outputs.outputs, &mut ended.outputs);
     ended.counts = total_counts(inputs);
 }

@@ -1,7 +1,7 @@
 //! The run of a description on one thread, over a Site.
 //!
 //! `run_described` opens all sources and sinks, hands on what the inputs give until all have ended, notes how all ended, and
-//! gives all back. It is generic over the maker of the output's texts. All memory that is wanted behind the run is taken
+//! gives all back. It is generic over the makers of the outputs' texts. All memory that is wanted behind the run is taken
 //! before anything is opened; where memory is wanted before the run, nothing is read and all is given back. Contracts say
 //! that what came of it is what a call promises of a run, or of one that is refused. What is said of it, and the commands,
 //! stand above.

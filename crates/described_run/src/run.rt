@@ -12,13 +12,16 @@ ghost use Rattle.site_openings.specs.Places.{places_of, SourcesBack};
 ghost use Rattle.site_openings.specs.Sinks.{SinksBack};
 ghost use Rattle.run_came.specs.Ran.{sinks_of};
 ghost use Rattle.run_came.specs.Told.{CameToRun};
+ghost use Rattle.stage_chain.specs.Behind.{works_of};
+ghost use Rattle.described_run.specs.Ready.{IsReady};
 
 use crate::ended::{note_all, room_for};
 use crate::handed::hand_on;
-use crate::taker::end;
+use crate::taker::{Ready, end, room_for_outputs};
 use col_base::{Text, WantOfMemory};
 use config_spec::Conf;
 use logged_outputs::LoggedOutputs;
+use message_stages::Stages;
 use message_texts::MessageTexts;
 use run_input::Input;
 use run_inputs::{give_back, make_inputs};
@@ -29,7 +32,7 @@ use std::alloc::Global;
 use std::rt::Clock;
 use std::sync::Wait;
 
-/// Gives all back behind a run: the sources of its inputs, and the sinks of its log and its output, into vectors that have
+/// Gives all back behind a run: the sources of its inputs, and the sinks of its log and its outputs, into vectors that have
 /// room for them. It takes no memory.
 fn give_all_back<S: Site, T: MessageTexts + Drop>(
     conf: &Conf,
@@ -65,15 +68,15 @@ fn run_over<R: Wait + Clock, S: Site, T: MessageTexts + Drop>(
     rt: &R,
     conf: &Conf,
     names: &[Text],
-    texts: T,
+    ready: Ready<T, S::Out>,
     inputs: Vec<Input<S::Src>>,
     room: Opened<S::Src, S::Out>,
     ended: &mut Ended,
     site: &mut S,
 )
-    requires one_output { length conf.now.outputs ≡ 1 }
     requires named { names.now ≡ sink_names (described_parties conf.now) }
     requires distinct { AreDistinct names.now }
+    requires ready { IsReady conf.now ready }
     requires out { (old : Seen) × (firsts : List S.Src) × AreOut S.Src.left S.Src.faults S.Out.held S.Out.faults conf.now firsts room.sinks.items old (S.seen site.old)
         × AreMade S.Src.left S.Src.faults conf.now firsts inputs.items }
     requires no_sources { room.sources.items ≡ [] }
@@ -83,11 +86,11 @@ fn run_over<R: Wait + Clock, S: Site, T: MessageTexts + Drop>(
     requires outputs { length ended.old.outputs.items ≡ length conf.now.outputs }
     ensures { (old : Seen) (firsts : List S.Src) → AreOut S.Src.left S.Src.faults S.Out.held S.Out.faults conf.now firsts room.sinks.items old (S.seen site.old)
         → AreMade S.Src.left S.Src.faults conf.now firsts inputs.items
-        → CameToRun S.Src.left S.Src.faults T.stands conf.now texts ended.new old (S.seen site.new) }
+        → CameToRun S.Src.left S.Src.faults T.stands conf.now ready.texts.items ended.new old (S.seen site.new) }
 {
     let mut inputs = inputs;
     let Opened { sources, mut sinks } = room;
-    let taker = hand_on(rt, texts, &mut inputs, &mut sinks);
+    let taker = hand_on(rt, ready, &mut inputs, &mut sinks);
     note_all(&inputs, &taker, ended);
     give_all_back(conf, names, inputs, taker, Opened { sources, sinks }, site);
 }
@@ -98,21 +101,21 @@ fn run_opened<R: Wait + Clock, S: Site, T: MessageTexts + Drop>(
     rt: &R,
     conf: &Conf,
     names: &[Text],
-    texts: T,
+    ready: Ready<T, S::Out>,
     opened: Opened<S::Src, S::Out>,
     ended: &mut Ended,
     site: &mut S,
 ) -> Result<(), WantOfMemory>
-    requires one_output { length conf.now.outputs ≡ 1 }
     requires named { names.now ≡ sink_names (described_parties conf.now) }
     requires distinct { AreDistinct names.now }
     requires few { length conf.now.inputs ≤ 65536 }
+    requires ready { IsReady conf.now ready }
     requires out { (old : Seen) × AreOut S.Src.left S.Src.faults S.Out.held S.Out.faults conf.now opened.sources.items opened.sinks.items old (S.seen site.old) }
     requires ends { length ended.old.inputs.items ≡ length conf.now.inputs }
     requires stages { ended.old.stages.items ≡ replicate (length conf.now.stages) false }
     requires outputs { length ended.old.outputs.items ≡ length conf.now.outputs }
     ensures ran { OnOk result ((old : Seen) → AreOut S.Src.left S.Src.faults S.Out.held S.Out.faults conf.now opened.sources.items opened.sinks.items old (S.seen site.old)
-        → CameToRun S.Src.left S.Src.faults T.stands conf.now texts ended.new old (S.seen site.new)) }
+        → CameToRun S.Src.left S.Src.faults T.stands conf.now ready.texts.items ended.new old (S.seen site.new)) }
     ensures refused { OnErr result ((old : Seen) → AreOut S.Src.left S.Src.faults S.Out.held S.Out.faults conf.now opened.sources.items opened.sinks.items old (S.seen site.old)
         → IsRefused S.Src.left S.Src.faults conf.now NoMemory old (S.seen site.new)) }
 {
@@ -123,7 +126,7 @@ fn run_opened<R: Wait + Clock, S: Site, T: MessageTexts + Drop>(
                 rt,
                 conf,
                 names,
-                texts,
+                ready,
                 inputs,
                 Opened { sources, sinks },
                 ended,
@@ -132,40 +135,56 @@ fn run_opened<R: Wait + Clock, S: Site, T: MessageTexts + Drop>(
             Ok(())
         }
         Err(want) => {
+            let Ready { room, .. } = ready;
+            room.destroy_empty();
             back_unused(conf, names, Opened { sources, sinks }, site);
             Err(want)
         }
     }
 }
 
-/// Runs a description with one output: opens all sources and then the sinks of these names, asks the inputs in turn until
-/// all have ended, hands each message on to the order log and to what makes the output's texts, and gives all back.
-/// Answers how all ended and what was counted, or, of a run that never began, why: what could not be opened, or memory was
-/// wanted before anything was read.
+/// Runs a description: opens all sources and then the sinks of these names, asks the inputs in turn until all have ended,
+/// hands each message on to the order log, and behind the intermediates to what makes the texts of each output, and gives
+/// all back. Answers how all ended and what was counted, or, of a run that never began, why: what could not be opened, or
+/// memory was wanted before anything was read.
 pub fn run_described<R: Wait + Clock, S: Site, T: MessageTexts + Drop>(
     alloc: Global,
     rt: &R,
     conf: &Conf,
     names: &[Text],
-    texts: T,
+    stages: Stages,
+    texts: Vec<T>,
     site: &mut S,
 ) -> Result<Ended, Unopened>
-    requires one_output { length conf.now.outputs ≡ 1 }
+    requires works { stages ≡ works_of conf.now.stages }
+    requires makers { length texts.items ≡ length conf.now.outputs }
     requires named { names.now ≡ sink_names (described_parties conf.now) }
     requires distinct { AreDistinct names.now }
     requires few { length conf.now.inputs ≤ 65536 }
-    ensures ran { IfOk result (λ ended. CameToRun S.Src.left S.Src.faults T.stands conf.now texts ended (S.seen site.old) (S.seen site.new)) }
+    ensures ran { IfOk result (λ ended. CameToRun S.Src.left S.Src.faults T.stands conf.now texts.items ended (S.seen site.old) (S.seen site.new)) }
     ensures refused { IfErr result (λ unopened. IsRefused S.Src.left S.Src.faults conf.now (refusal_of unopened) (S.seen site.old) (S.seen site.new)) }
 {
     let mut ended = match room_for(alloc, conf) {
         Ok(ended) => ended,
         Err(_) => return Err(Unopened::Memory),
     };
+    let room = match room_for_outputs(alloc, texts.len()) {
+        Ok(room) => room,
+        Err(_) => return Err(Unopened::Memory),
+    };
     let opened = match open_all(alloc, conf, names, site) {
         Ok(opened) => opened,
-        Err(unopened) => return Err(unopened),
+        Err(unopened) => {
+            room.destroy_empty();
+            return Err(unopened);
+        }
     };
-    match run_opened(alloc, rt, conf, names, texts, opened, &mut ended, site) {
+    let ready = Ready {
+        stages,
+        texts,
+        room,
+    };
+    match run_opened(alloc, rt, conf, names, ready, opened, &mut ended, site) {
         Ok(()) => Ok(ended),
         Err(_) => Err(Unopened::Memory),
     }

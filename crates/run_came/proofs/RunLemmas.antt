@@ -1,7 +1,7 @@
 -- What a whole run over a Site comes to.
-use Rattle.std.proofs.Common.{◌≡◌, ℕ, Bool, false, List, [], ◌∷◌, ◌++◌, Option, Some, None, length, map, refl, ap, sym, subst, ◌∙◌, arith}
-use Rattle.std.specs.Prelude.{MatchOption, nat_lt}
-use Rattle.std.proofs.lemmas.List.{length-map}
+use Rattle.std.proofs.Common.{◌≡◌, ℕ, suc, ◌≤◌, Bool, false, List, [], ◌∷◌, ◌++◌, Option, Some, None, length, map, refl, ap, sym, subst, ◌∙◌, arith, append_assoc}
+use Rattle.std.specs.Prelude.{MatchOption, nat_lt, option_to_list, slice_get}
+use Rattle.std.proofs.lemmas.List.{length-append, length-map}
 use Rattle.arrival_spec.specs.declared.event.Scripted.{Scripted}
 use Rattle.config_spec.specs.declared.conf.Conf.{Conf}
 use Rattle.config_spec.specs.declared.conf.InputConf.{InputConf}
@@ -9,14 +9,16 @@ use Rattle.config_spec.specs.declared.conf.OutputConf.{OutputConf}
 use Rattle.config_spec.specs.declared.conf.StageConf.{StageConf}
 use Rattle.text_spec.specs.declared.element.Element.{Element}
 use Rattle.run_spec.specs.Work.{Item}
-use Rattle.result_spec.specs.Result.{inputs_of, result_text}
+use Rattle.result_spec.specs.Result.{ComeTo, ExceedsFor, held_for, inputs_of, text_for}
+use Rattle.result_spec.specs.Through.{items_for, items_through, through}
 use Rattle.site_io.specs.declared.outside.OutsideFault.{OutsideFault}
 use Rattle.site_io.specs.Seen.{PlaceSeen, Seen, SinkSeen, TextSeen}
 use Rattle.call_spec.specs.Came.{InputCame, Party, RunCame}
 use Rattle.call_spec.specs.Came.Came.{Ran}
 use Rattle.call_spec.specs.Counts.{PlaceKept, SinkKept, TextKept}
-use Rattle.call_spec.specs.Ends.{HoldsAs, has_failed}
-use Rattle.call_spec.specs.Leaves.{Comes, Gave, IsCounted, OutputText, arrivals_in, at_of, beside, is_cut, log_and, sink_names}
+use Rattle.call_spec.specs.declared.end.OutputFault.{OutputFault}
+use Rattle.call_spec.specs.Ends.{EndsOutput, HoldsBy, has_failed, output_failed}
+use Rattle.call_spec.specs.Leaves.{Comes, Gave, HoldsResult, IsCounted, arrivals_in, at_of, beside, given_of, log_and, sink_names, stage_wants}
 use Rattle.call_spec.specs.Log.{HoldsLog}
 use Rattle.call_spec.specs.Names.{has, marked, times}
 use Rattle.call_spec.specs.Pairs.{Each}
@@ -24,7 +26,10 @@ use Rattle.call_spec.proofs.NameLemmas.{members}
 use Rattle.call_spec.proofs.PairLemmas.{same_length}
 use Rattle.call_spec.specs.Plan.{described_parties, input_party, output_party}
 use Rattle.call_spec.specs.Plan.Plan.{Described}
+use Rattle.stage_chain.specs.Behind.{works_of}
 use Rattle.logged_outputs.specs.declared.logged.LoggedOutputs.{LoggedOutputs}
+use Rattle.logged_outputs.specs.declared.output.Output.{Output}
+use Rattle.logged_outputs.specs.Behind.{AllHave, CutShort}
 use Rattle.logged_outputs.specs.Entries.{Entry, items_in, order_of}
 use Rattle.logged_outputs.specs.Logged.{Took}
 use Rattle.run_input.specs.declared.input.Input.{Input}
@@ -32,39 +37,40 @@ use Rattle.input_turns.specs.Turns.{InputSoFar}
 use Rattle.run_entries.specs.Came.{AreEntriesOf, InputCameTo}
 use Rattle.run_entries.proofs.CameLemmas.{all_came}
 use Rattle.run_entries.proofs.CountLemmas.{run_counts}
-use Rattle.run_entries.proofs.OrderLemmas.{is_order, next_partial, order_text, run_lists}
+use Rattle.run_entries.proofs.OrderLemmas.{is_order, next_partial, order_items, run_lists}
 use Rattle.run_lines.specs.declared.ended.Ended.{Ended}
 use Rattle.run_lines.specs.Rows.{meant_counts}
 use Rattle.site_openings.specs.Out.{AreDistinct, Begins, Shows}
 use Rattle.site_openings.specs.Places.{all_left, place_faults, place_left, place_openings, place_out, places_of}
-use Rattle.site_openings.specs.Sinks.{SinksBack, SinksOut, sink_faults, sink_held, sink_openings, sink_out}
-use Rattle.run_came.specs.Ends.{log_fault, own_fault, wanting}
+use Rattle.site_openings.specs.Sinks.{nothing_held, sink_faults, sink_held, sink_openings, sink_out}
+use Rattle.run_came.specs.Ends.{log_fault, wanting}
 use Rattle.run_inputs.specs.Made.{sources_of}
-use Rattle.run_came.specs.Ran.{RanOver, sinks_of}
+use Rattle.run_came.specs.Ran.{RanOver, output_sinks, sinks_of}
 use Rattle.run_came.specs.Told.{CameToRun, IsNoted, TellsRun}
 use Rattle.run_came.proofs.InputLemmas.{all_failed, all_gave, ends_same, place_kept, places_are}
-use Rattle.run_came.proofs.SinkLemmas.{LogHeld, SinksCame, sink_kept, sinks_came}
-use Rattle.run_came.proofs.OutputLemmas.{OutputCame, output_came, wanting_long}
-
-one_output : (outputs : List OutputConf) → length outputs ≡ 1 → (o : OutputConf) × (outputs ≡ o ∷ [])
-one_output [] e = absurd (omega arith)
-one_output (o ∷ []) e = (o, refl)
-one_output (o ∷ (p ∷ outputs)) e = absurd (omega arith)
+use Rattle.run_came.proofs.SinkLemmas.{LogHeld, SinksCame, sink_kept, sinks_came, told_of}
+use Rattle.run_came.proofs.OutputLemmas.{AllWent, OutputCame, all_came, all_marked, all_went, located, nows_long, wanting_long}
 
 text_kept : (x y : TextSeen) → y ≡ x → TextKept false x y
 text_kept x y e = record { octets = ap (λ (t : TextSeen). t.octets) e; faults = ap (λ (t : TextSeen). t.faults) e }
 
-module _ {S T K : Type 0} (left : S → Option (List Scripted)) (faults : S → ℕ) (stands : Conf → List Element → ℕ → List Item → T → Type 0) (held : K → Option (List ℕ)) (own_faults : K → ℕ)
-    (conf : Conf) (texts : T) (xs : List (Input S)) (taker : LoggedOutputs T K) (ended : Ended) (old new : Seen) (o : OutputConf) (alone : conf.outputs ≡ o ∷ []) (distinct : AreDistinct (sink_names (described_parties conf)))
-    (r : RanOver left faults stands held own_faults conf texts xs taker old new) (noted : IsNoted (length conf.stages) xs taker ended) where
+module _ {S T K : Type 0} (left : S → Option (List Scripted)) (faults : S → ℕ) (stands : OutputConf → List Element → List Item → T → Type 0) (held : K → Option (List ℕ)) (total : K → Option ℕ) (own_faults : K → ℕ)
+    (conf : Conf) (texts : List T) (xs : List (Input S)) (taker : LoggedOutputs T K) (ended : Ended) (old new : Seen) (long : length texts ≡ length conf.outputs) (distinct : AreDistinct (sink_names (described_parties conf)))
+    (r : RanOver left faults stands held total own_faults conf texts xs taker old new) (noted : IsNoted (length conf.stages) xs taker ended) where
   abbrev places : List (List ℕ)
   places = places_of conf.inputs
 
-  abbrev names : List (List ℕ)
-  names = log_and conf.order_log (o.path ∷ [])
+  abbrev ats : List (List ℕ)
+  ats = at_of (map output_party conf.outputs)
 
-  names_are : sink_names (described_parties conf) ≡ names
-  names_are = ap (λ (l : List OutputConf). log_and conf.order_log (at_of (map output_party l))) alone
+  abbrev names : List (List ℕ)
+  names = log_and conf.order_log ats
+
+  abbrev firsts : List (Output T K)
+  firsts = r.handed.first.outputs.outputs.items
+
+  abbrev nows : List (Output T K)
+  nows = taker.outputs.outputs.items
 
   abbrev Came : Type 0
   Came = (pairs : List (S × InputCame)) × Each (InputCameTo left faults (inputs_of conf) r.handed.entries) 0 pairs xs × (map (λ (p : S × InputCame). p.0) pairs ≡ r.sources)
@@ -75,7 +81,7 @@ module _ {S T K : Type 0} (left : S → Option (List Scripted)) (faults : S → 
   abbrev cames : List InputCame
   cames = map (λ (p : S × InputCame). p.1) came.0
 
-  took : Took stands held own_faults r.handed.entries r.handed.first taker
+  took : Took stands held total own_faults r.handed.entries r.handed.first taker
   took = r.handed.took
 
   abbrev run : RunCame
@@ -83,8 +89,8 @@ module _ {S T K : Type 0} (left : S → Option (List Scripted)) (faults : S → 
     inputs = cames;
     order = order_of took.front;
     log = log_fault taker.log;
-    stages = wanting (length conf.stages) taker.output.fault;
-    outputs = own_fault taker.output.fault ∷ [];
+    stages = wanting (length conf.stages) taker.outputs.wanting;
+    outputs = map (λ (o : Output T K). o.fault) nows;
     counts = meant_counts ended.counts;
   }
 
@@ -123,17 +129,24 @@ module _ {S T K : Type 0} (left : S → Option (List Scripted)) (faults : S → 
 
   -- ---- sinks
 
-  sinks_out : SinksOut held own_faults names r.sinks r.out.0 r.all_open
-  sinks_out = subst (λ (l : List (List ℕ)). SinksOut held own_faults l r.sinks r.out.0 r.all_open) names_are r.out.2
+  firsts_long : length firsts ≡ length conf.outputs
+  firsts_long = sym (length-map firsts (λ (o : Output T K). o.texts)) ∙ (ap length r.handed.is_new.make ∙ long)
 
-  sinks_back : SinksBack held own_faults names (sinks_of taker) r.all_open r.half_closed
-  sinks_back = subst (λ (l : List (List ℕ)). SinksBack held own_faults l (sinks_of taker) r.all_open r.half_closed) names_are r.sinks_back
+  ats_long : length ats ≡ length firsts
+  ats_long = length-map (map output_party conf.outputs) (λ (p : Party). p.at) ∙ (length-map conf.outputs output_party ∙ sym firsts_long)
 
-  sunk : SinksCame held own_faults conf.order_log o.path took.front took.rest taker.log r.handed.first.output.sink taker.output.sink r.out.0.sink r.half_closed.sink
+  went : MatchOption taker.outputs.wanting (AllHave stands held total own_faults (items_through conf.stages (items_in took.front)) firsts nows) (CutShort stands held total own_faults conf.stages (items_in took.front) firsts nows)
+  went = took.written.went conf.stages (sym r.handed.is_new.behind)
+
+  outputs_long : length nows ≡ length conf.outputs
+  outputs_long = nows_long stands held total own_faults conf.stages (items_in took.front) firsts nows taker.outputs.wanting went ∙ firsts_long
+
+  sunk : SinksCame held own_faults names conf.order_log ats took.front took.rest taker.log firsts nows r.out.0.sink r.half_closed.sink
   sunk =
-      sinks_came held own_faults names (subst AreDistinct names_are distinct) took.front took.rest r.out.0.sink r.half_closed.sink conf.order_log o.path r.sinks r.handed.first.log taker.log r.handed.first.output.sink taker.output.sink
-      sinks_out.all.each r.handed.is_new.over took.logged
-      (members (Shows sink_held sink_faults sink_openings sink_out held own_faults names r.half_closed.sink) (λ p. times p names) 0 names (sinks_of taker) (λ p. omega arith) sinks_back.all.each)
+      sinks_came held own_faults names distinct took.front took.rest r.out.0.sink r.half_closed.sink ats firsts nows ats_long conf.order_log r.handed.is_new.log_sink r.handed.first.log taker.log
+      (subst (λ (l : List K). Each (Begins sink_held sink_faults sink_openings sink_out held own_faults nothing_held r.out.0.sink) 0 names l) r.handed.is_new.over r.out.2.all.each)
+      r.handed.is_new.log took.logged
+      (members (Shows sink_held sink_faults sink_openings sink_out held own_faults names r.half_closed.sink) (λ p. times p names) 0 names (sinks_of taker) (λ p. omega arith) r.sinks_back.all.each)
 
   -- the sinks are as they were before the sources went out, and behind their return
   moved : (P : (List ℕ → SinkSeen) → (List ℕ → SinkSeen) → Type 0) → P r.out.0.sink r.half_closed.sink → P old.sink new.sink
@@ -152,33 +165,65 @@ module _ {S T K : Type 0} (left : S → Option (List Scripted)) (faults : S → 
       moved (λ b e. MatchOption conf.order_log (log_fault taker.log ≡ None) (λ path. HoldsLog (log_fault taker.log) (arrivals_in conf run) (b path).held (e path).held (order_of took.front)))
       (log_holds conf.order_log (log_fault taker.log) r.out.0.sink r.half_closed.sink sunk.logged)
 
-  module _ (rows : List Element) (s : stands conf rows 0 [] texts) where
-    abbrev text : List ℕ
-    text = result_text conf rows 0 (items_in took.front)
+  -- ---- outputs
 
-    put_out : OutputCame stands held own_faults (length conf.stages) (r.out.0.sink o.path).held (r.half_closed.sink o.path).held text taker.output.sink taker.output.fault
-    put_out =
-        output_came stands held own_faults conf rows 0 (items_in took.front) r.handed.first.output taker.output (r.out.0.sink o.path).held (r.half_closed.sink o.path).held sunk.told sunk.fresh
-        (took.written conf rows 0 (subst (λ (t : T). stands conf rows 0 [] t) (sym r.handed.is_new.makes) s) r.handed.is_new.goes_on)
+  abbrev cut : Bool
+  cut = stage_wants run
 
-    sinks_kept : (p : List ℕ) → SinkKept (times p (sink_names (described_parties conf))) (has p (marked (sink_names (described_parties conf)) (map has_failed (beside conf.order_log (log_fault taker.log) (own_fault taker.output.fault ∷ [])))))
-        (old.sink p) (new.sink p)
+  all_wrote : AllWent stands held total own_faults cut (items_through conf.stages (items_in took.front)) firsts nows
+  all_wrote = all_went stands held total own_faults conf.stages (items_in took.front) firsts nows taker.outputs.wanting went
+
+  module _ (rows : List Element) (s : Each (λ _ output makes. stands output rows [] makes) 0 conf.outputs texts) where
+    abbrev items : List Item
+    items = items_through conf.stages (items_in took.front)
+
+    abbrev HasCome : (List ℕ → SinkSeen) → (List ℕ → SinkSeen) → Type 0
+    HasCome b e = Each (λ _ o (now : Output T K). OutputCame stands held total own_faults rows cut items b e o now.sink now.fault) 0 conf.outputs nows
+
+    outputs_came : HasCome r.out.0.sink r.half_closed.sink
+    outputs_came =
+        all_came stands held total own_faults rows cut items all_wrote.front all_wrote.rest all_wrote.whole all_wrote.all r.out.0.sink r.half_closed.sink
+        (Begins sink_held sink_faults sink_openings sink_out held own_faults nothing_held r.out.0.sink)
+        (λ k name sink. Shows sink_held sink_faults sink_openings sink_out held own_faults names r.half_closed.sink k name sink × (1 ≤ times name names))
+        (told_of held own_faults names distinct took.front took.rest r.out.0.sink r.half_closed.sink ats firsts nows ats_long)
+        (λ k name first g. g.1)
+        0 conf.outputs firsts nows sunk.began sunk.shown r.handed.is_new.go_on
+        (subst (λ (l : List T). Each (λ _ output makes. stands output rows [] makes) 0 conf.outputs l) (sym r.handed.is_new.make) s)
+        all_wrote.have
+
+    sinks_kept : (p : List ℕ) → SinkKept (times p names) (has p (marked names (beside conf.order_log (has_failed (log_fault taker.log)) (map output_failed run.outputs)))) (old.sink p) (new.sink p)
     sinks_kept p =
-        subst (λ (l : List (List ℕ)). SinkKept (times p l) (has p (marked l (map has_failed (beside conf.order_log (log_fault taker.log) (own_fault taker.output.fault ∷ []))))) (old.sink p) (new.sink p)) (sym names_are)
-        (moved (λ b e. SinkKept (times p names) (has p (marked names (map has_failed (beside conf.order_log (log_fault taker.log) (own_fault taker.output.fault ∷ []))))) (b p) (e p))
-        (subst (λ (marks : List Bool). SinkKept (times p names) (has p (marked names marks)) (r.out.0.sink p) (r.half_closed.sink p)) (sunk.marks (own_fault taker.output.fault) put_out.failed)
-        (sink_kept (times p names) (has p (marked names (map (λ t. nat_lt 0 (own_faults t)) (sinks_of taker)))) (r.out.0.sink p) (r.all_open.sink p) (r.half_closed.sink p) (sinks_out.all.counts p) (sinks_back.all.counts p))))
+        moved (λ b e. SinkKept (times p names) (has p (marked names (beside conf.order_log (has_failed (log_fault taker.log)) (map output_failed run.outputs)))) (b p) (e p))
+        (subst (λ (marks : List Bool). SinkKept (times p names) (has p (marked names marks)) (r.out.0.sink p) (r.half_closed.sink p))
+        (sunk.marks (map output_failed run.outputs) (all_marked stands held total own_faults rows cut items r.out.0.sink r.half_closed.sink 0 conf.outputs nows outputs_came))
+        (sink_kept (times p names) (has p (marked names (map (λ t. nat_lt 0 (own_faults t)) (sinks_of taker)))) (r.out.0.sink p) (r.all_open.sink p) (r.half_closed.sink p) (r.out.2.all.counts p) (r.sinks_back.all.counts p)))
 
-    holds : Each (λ j (party : Party) f. (t : List ℕ) × OutputText (Described conf rows) run j t × HoldsAs (is_cut (Described conf rows) run f) (old.sink party.at).held (new.sink party.at).held t) 0 (map output_party conf.outputs) run.outputs
-    holds =
-        subst (λ (l : List OutputConf). Each (λ j (party : Party) f. (t : List ℕ) × OutputText (Described conf rows) run j t × HoldsAs (is_cut (Described conf rows) run f) (old.sink party.at).held (new.sink party.at).held t) 0 (map output_party l) run.outputs) (sym alone) (
-          (
-            text,
-            order_text conf took.front took.rest cames (run_lists left faults conf run (took.front ++ took.rest) xs entries_are) rows 0,
-            moved (λ b e. HoldsAs (is_cut (Described conf rows) run (own_fault taker.output.fault)) (b o.path).held (e o.path).held text) put_out.holds,
-          ),
-          tt,
-        )
+    come : (j : ℕ) → ComeTo conf (given_of run) (order_of took.front) j (through conf j (items_in took.front))
+    come j = order_items conf took.front took.rest cames (run_lists left faults conf run (took.front ++ took.rest) xs entries_are) j
+
+    -- of output j
+    holds_result : (j : ℕ) (o : OutputConf) (sink : K) (f : Option OutputFault) → slice_get conf.outputs j ≡ Some o → OutputCame stands held total own_faults rows cut items old.sink new.sink o sink f
+        → HoldsResult conf rows run j f (old.sink o.path).held (new.sink o.path).held
+    holds_result j o sink f at c = record {
+      items = through conf j (items_in took.front);
+      come = come j;
+      ends = subst (λ (x : Option OutputConf). EndsOutput cut f (ExceedsFor x (items_for x items))) (sym at) c.ends;
+      holds = subst (λ (x : Option OutputConf). HoldsBy cut f (old.sink o.path).held (new.sink o.path).held (text_for rows x (items_for x items)) (text_for rows x (held_for x (items_for x items)))) (sym at) c.holds;
+    }
+
+    all_hold : (front outputs : List OutputConf) (rest : List (Output T K)) (n : ℕ) → conf.outputs ≡ front ++ outputs → n ≡ length front
+        → Each (λ _ o (now : Output T K). OutputCame stands held total own_faults rows cut items old.sink new.sink o now.sink now.fault) n outputs rest
+        → Each (λ j (party : Party) f. HoldsResult conf rows run j f (old.sink party.at).held (new.sink party.at).held) n (map output_party outputs) (map (λ (o : Output T K). o.fault) rest)
+    all_hold front [] [] n whole is c = tt
+    all_hold front [] (now ∷ rest) n whole is c = absurd c
+    all_hold front (o ∷ outputs) [] n whole is c = absurd c
+    all_hold front (o ∷ outputs) (now ∷ rest) n whole is c = (
+      holds_result n o now.sink now.fault (ap (slice_get conf.outputs) is ∙ located conf.outputs front o outputs whole) c.0,
+      all_hold (front ++ o ∷ []) outputs rest (suc n) (whole ∙ sym (append_assoc front (o ∷ []) outputs)) (let more = length-append front (o ∷ []) in omega (arith, is, more)) c.1,
+    )
+
+    holds : Each (λ j (party : Party) f. HoldsResult conf rows run j f (old.sink party.at).held (new.sink party.at).held) 0 (map output_party conf.outputs) run.outputs
+    holds = all_hold [] conf.outputs nows 0 refl refl (moved HasCome outputs_came)
 
     counted : IsCounted (Described conf rows) run
     counted calm_all =
@@ -195,7 +240,7 @@ module _ {S T K : Type 0} (left : S → Option (List Scripted)) (faults : S → 
         gave = gave rows;
         ordered = is_order conf run took.front took.rest (run_lists left faults conf run (took.front ++ took.rest) xs entries_are) refl sunk.none_left;
         logged = logged;
-        stages = wanting_long (length conf.stages) taker.output.fault ∙ sym (length-map conf.stages (λ (c : StageConf). c.name));
+        stages = wanting_long (length conf.stages) taker.outputs.wanting ∙ sym (length-map conf.stages (λ (c : StageConf). c.name));
         holds = holds;
         counted = counted;
       };
@@ -209,16 +254,9 @@ module _ {S T K : Type 0} (left : S → Option (List Scripted)) (faults : S → 
     outputs = noted.outputs;
     counts = refl;
     inputs_long = ap length noted.inputs ∙ (length-map xs (λ (x : Input S). Rattle.run_entries.specs.Came.end_or x.end) ∙ inputs_long);
-    stages_long = ap length noted.stages_are ∙ wanting_long (length conf.stages) taker.output.fault;
-    outputs_long = ap length noted.outputs ∙ sym (ap length alone);
+    stages_long = ap length noted.stages_are ∙ wanting_long (length conf.stages) taker.outputs.wanting;
+    outputs_long = ap length noted.outputs ∙ (length-map nows (λ (o : Output T K). o.fault) ∙ outputs_long);
   }
 
-  came_to : CameToRun left faults stands conf texts ended old new
+  pub came_to : CameToRun left faults stands conf texts ended old new
   came_to = (run, tells, r.sources_back.rest.say ∙ (r.sinks_back.rest.say ∙ (r.out.2.rest.say ∙ r.out.1.rest.say)), λ rows s. comes rows s)
-
-pub run_came : {S T K : Type 0} (left : S → Option (List Scripted)) (faults : S → ℕ) (stands : Conf → List Element → ℕ → List Item → T → Type 0) (held : K → Option (List ℕ)) (own_faults : K → ℕ)
-    (conf : Conf) (texts : T) (xs : List (Input S)) (taker : LoggedOutputs T K) (ended : Ended) (old new : Seen) → length conf.outputs ≡ 1 → AreDistinct (sink_names (described_parties conf))
-    → RanOver left faults stands held own_faults conf texts xs taker old new → IsNoted (length conf.stages) xs taker ended → CameToRun left faults stands conf texts ended old new
-run_came left faults stands held own_faults conf texts xs taker ended old new one distinct r noted =
-    let alone = one_output conf.outputs one in
-    came_to left faults stands held own_faults conf texts xs taker ended old new alone.0 alone.1 distinct r noted

@@ -1,15 +1,15 @@
--- What an output has of entries, and in which order the arrivals were taken.
+-- What comes to an output of entries, and in which order the arrivals were taken.
 use Rattle.std.proofs.Common.{◌≡◌, ℕ, Bool, true, false, List, [], ◌∷◌, ◌++◌, Option, length, take, drop, refl, ap, sym, subst, ◌∙◌, arith, append-nil, append_assoc}
 use Rattle.std.specs.Prelude.{is_some, ◌||◌, Option}
 use Rattle.std.specs.List.{list_any}
 use Rattle.std.proofs.lemmas.List.{map-append}
 use Rattle.config_spec.specs.declared.conf.Conf.{Conf}
-use Rattle.text_spec.specs.declared.element.Element.{Element}
 use Rattle.arrival_spec.specs.Arrival.{Arrival}
 use Rattle.run_spec.specs.Merge.{IsPartial, merged, times}
 use Rattle.run_spec.specs.Work.{AreDecodedTo}
 use Rattle.run_spec.proofs.EachLemmas.{each_decoded}
-use Rattle.result_spec.specs.Result.{IsRunResult, arrivals_from, inputs_of, result_text}
+use Rattle.result_spec.specs.Result.{ComeTo, arrivals_from, inputs_of}
+use Rattle.result_spec.specs.Through.{through}
 use Rattle.call_spec.specs.Came.{InputCame, RunCame}
 use Rattle.call_spec.specs.Leaves.{IsOrder}
 use Rattle.call_spec.specs.Ends.{wants_memory}
@@ -28,9 +28,9 @@ module _ (conf : Conf) (front rest : List Entry) (cames : List InputCame) (l : L
   pub order_partial : IsPartial (order_of front) Arrivals
   order_partial = partial (inputs_of conf) front Arrivals l.lists l.decoded (front_begins l.lists front rest (begins_of (inputs_of conf) (front ++ rest) cames l))
 
-  -- and the text of their items is that of the arrivals in this order
-  pub order_text : (rows : List Element) (j : ℕ) → IsRunResult conf rows (givens cames) (order_of front) j (result_text conf rows j (items_in front))
-  order_text rows j = (
+  -- and their items are what comes to an output of the arrivals in this order
+  pub order_items : (j : ℕ) → ComeTo conf (givens cames) (order_of front) j (through conf j (items_in front))
+  order_items j = (
     items_in front,
     subst (AreDecodedTo (inputs_of conf) (merged (order_of front) Arrivals)) (merge l.lists front (front_begins l.lists front rest (begins_of (inputs_of conf) (front ++ rest) cames l)))
         (each_decoded (inputs_of conf) (order_of front) Arrivals l.lists order_partial (are_by_input (inputs_of conf) (givens cames)) l.decoded),

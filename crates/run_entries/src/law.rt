@@ -3,12 +3,12 @@ ghost use Rattle.std.specs.Prelude.{◌≡◌, ◌++◌, ◌∷◌, [], ℕ, Lis
 ghost use Rattle.std.specs.List.{list_all, list_any};
 ghost use Rattle.arrival_spec.specs.declared.event.Scripted.{Scripted};
 ghost use Rattle.config_spec.specs.declared.conf.Conf.{Conf};
-ghost use Rattle.text_spec.specs.declared.element.Element.{Element};
 ghost use Rattle.run_spec.specs.Judge.{Inputs};
 ghost use Rattle.run_spec.specs.Merge.{IsPartial};
 ghost use Rattle.count_spec.specs.Counts.{Counts};
 ghost use Rattle.count_spec.specs.Run.{AreCounts};
-ghost use Rattle.result_spec.specs.Result.{IsRunResult, inputs_of, result_text};
+ghost use Rattle.result_spec.specs.Result.{ComeTo, inputs_of};
+ghost use Rattle.result_spec.specs.Through.{through};
 ghost use Rattle.call_spec.specs.Came.{InputCame, RunCame};
 ghost use Rattle.call_spec.specs.Ends.{EndsInput, wants_memory};
 ghost use Rattle.call_spec.specs.Leaves.{IsOrder, arrivals_in, given_of};
@@ -32,16 +32,16 @@ pub fn inputs_have_entries<S>()
         → EndsInput (all k).stop_after (left pair.0) (left x.inlet.source) pair.1.given pair.1.end pair.1.failed }
 {}
 
-/// The first entries of inputs that have ended are an order of their arrivals, with the next entry too; and the text of
-/// their items is that of the arrivals in this order. Where these are all entries, the order takes all arrivals of each
-/// input that did not want memory.
+/// The first entries of inputs that have ended are an order of their arrivals, with the next entry too; and their items are
+/// what comes to each output of the arrivals in this order. Where these are all entries, the order takes all arrivals of
+/// each input that did not want memory.
 pub fn entries_are_arrivals_in_an_order<S>()
     ensures order { (left : S → Option (List Scripted)) (faults : S → ℕ) (conf : Conf) (run : RunCame) (front rest : List Entry) (xs : List (Input S)) → AreEntriesOf left faults conf run (front ++ rest) xs
         → run.order ≡ order_of front → (is_some run.log ≡ false → rest ≡ []) → IsOrder run (arrivals_in conf run) }
     ensures next { (left : S → Option (List Scripted)) (faults : S → ℕ) (conf : Conf) (run : RunCame) (front more : List Entry) (x : Entry) (xs : List (Input S)) → AreEntriesOf left faults conf run (front ++ x ∷ more) xs
         → IsPartial (order_of front ++ x.input ∷ []) (arrivals_in conf run) }
-    ensures text { (left : S → Option (List Scripted)) (faults : S → ℕ) (conf : Conf) (run : RunCame) (front rest : List Entry) (xs : List (Input S)) → AreEntriesOf left faults conf run (front ++ rest) xs
-        → (rows : List Element) (j : ℕ) → IsRunResult conf rows (given_of run) (order_of front) j (result_text conf rows j (items_in front)) }
+    ensures come { (left : S → Option (List Scripted)) (faults : S → ℕ) (conf : Conf) (run : RunCame) (front rest : List Entry) (xs : List (Input S)) → AreEntriesOf left faults conf run (front ++ rest) xs
+        → (j : ℕ) → ComeTo conf (given_of run) (order_of front) j (through conf j (items_in front)) }
 {}
 
 /// The counts of inputs that have ended, added up, are those of the run, unless one wanted memory.

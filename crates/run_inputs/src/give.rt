@@ -18,12 +18,12 @@ pub fn put<T>(values: &mut Vec<T>, value: T)
     }
 }
 
-/// Turns the order of sources round.
-pub fn turn_round<S>(sources: &mut Vec<S>)
-    ensures turned { sources.new.items ≡ reverse sources.old.items }
-    ensures room { vec_capacity sources.new ≡ vec_capacity sources.old }
+/// Turns the order of values round. It takes no memory.
+pub fn turn_round<T>(values: &mut Vec<T>)
+    ensures turned { values.new.items ≡ reverse values.old.items }
+    ensures room { vec_capacity values.new ≡ vec_capacity values.old }
 {
-    sources.as_mut_slice().reverse();
+    values.as_mut_slice().reverse();
 }
 
 /// Gives the sources of inputs back behind others, that of the last one first. It takes no memory.

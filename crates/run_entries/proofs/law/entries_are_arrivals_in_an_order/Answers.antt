@@ -1,4 +1,4 @@
-use Rattle.run_entries.proofs.OrderLemmas.{is_order, next_partial, order_text, run_lists}
+use Rattle.run_entries.proofs.OrderLemmas.{is_order, next_partial, order_items, run_lists}
 use Rattle.run_entries.proofs.law.entries_are_arrivals_in_an_order.Goals as goal
 
 pub returns-clause-order : goal.returns-clause-order
@@ -7,5 +7,5 @@ returns-clause-order g c left faults conf run front rest xs e is none = is_order
 pub returns-clause-next : goal.returns-clause-next
 returns-clause-next g c left faults conf run front more x xs e = next_partial conf front x more run.inputs (run_lists left faults conf run _ xs e)
 
-pub returns-clause-text : goal.returns-clause-text
-returns-clause-text g c left faults conf run front rest xs e rows j = order_text conf front rest run.inputs (run_lists left faults conf run _ xs e) rows j
+pub returns-clause-come : goal.returns-clause-come
+returns-clause-come g c left faults conf run front rest xs e j = order_items conf front rest run.inputs (run_lists left faults conf run _ xs e) j
