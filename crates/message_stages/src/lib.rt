@@ -11,6 +11,10 @@
 #![tactic(auto)]
 
 mod laws;
+mod message;
+mod prepare;
+mod rooms;
+mod set;
 mod stages;
 
 pub use laws::items_go_one_by_one;

@@ -12,7 +12,7 @@ use Rattle.pipeline_message.specs.Items.{IsRecordAt, octets_at, record_at}
 use Rattle.stage_chain.specs.Behind.{records_behind, AreLeft}
 use Rattle.stage_chain.proofs.BehindLemmas.{behind_append}
 
-both : {X : Type 0} (P : X → Type 0) (a b : List X) → AllByRecursion P a → AllByRecursion P b → AllByRecursion P (a ++ b)
+pub both : {X : Type 0} (P : X → Type 0) (a b : List X) → AllByRecursion P a → AllByRecursion P b → AllByRecursion P (a ++ b)
 both P [] b p q = q
 both P (x ∷ a) b p q = (p.0, both P a b p.1 q)
 
@@ -23,13 +23,13 @@ octets_stay now more p inside =
     let long : p.len ≤ length (drop p.start now) = omega (arith, length-drop p.start now) in
     ap (take p.len) (drop-append-le p.start now more front) ∙ take-append-le p.len (drop p.start now) more long
 
-records_stay : (fields : List FieldSpec) (now more : List ℕ) (left : List Place) → AllByRecursion (IsRecordAt fields now) left → map (record_at fields (now ++ more)) left ≡ map (record_at fields now) left
+pub records_stay : (fields : List FieldSpec) (now more : List ℕ) (left : List Place) → AllByRecursion (IsRecordAt fields now) left → map (record_at fields (now ++ more)) left ≡ map (record_at fields now) left
 records_stay fields now more [] sound = refl
 records_stay fields now more (p ∷ left) sound =
     let first = ap (record_of fields) (octets_stay now more p sound.0.0) in
     ap (λ (r : Record). r ∷ map (record_at fields (now ++ more)) left) first ∙ ap (λ (l : List Record). record_at fields now p ∷ l) (records_stay fields now more left sound.1)
 
-sound_stay : (fields : List FieldSpec) (now more : List ℕ) (left : List Place) → AllByRecursion (IsRecordAt fields now) left → AllByRecursion (IsRecordAt fields (now ++ more)) left
+pub sound_stay : (fields : List FieldSpec) (now more : List ℕ) (left : List Place) → AllByRecursion (IsRecordAt fields now) left → AllByRecursion (IsRecordAt fields (now ++ more)) left
 sound_stay fields now more [] sound = tt
 sound_stay fields now more (p ∷ left) sound =
     let inside = sound.0.0 in

@@ -36,7 +36,7 @@ pub fn octets_at(octets: &[u8], place: Place) -> &[u8]
 }
 
 /// Whether some intermediate changes records.
-fn some_changes(stages: &[Stage]) -> bool
+pub fn some_changes(stages: &[Stage]) -> bool
     ensures { result ≡ list_any changes stages.now }
 {
     stages.iter().any(|stage| stage.changes())
@@ -44,7 +44,7 @@ fn some_changes(stages: &[Stage]) -> bool
 
 /// The place of the first intermediate that changes records, or of the first of all.
 #[cold]
-fn first_change(stages: &[Stage]) -> usize
+pub fn first_change(stages: &[Stage]) -> usize
     requires { 0 < length stages.now }
     ensures { result < length stages.now }
 {

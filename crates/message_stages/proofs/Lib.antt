@@ -1,0 +1,4 @@
+pub mod ItemLemmas
+pub mod MessageLemmas
+pub mod SetLemmas
+pub mod SuitLemmas
