@@ -139,6 +139,10 @@ class Maker:
             lines.append(f"stop-after = {self.random.choice([0, 1, 2, 3, 5, 10, 20])}")
         return lines, place
 
+    def intermediates(self):
+        """The lines of a description's intermediates."""
+        return []
+
     def script(self, is_long):
         count = 1 if is_long else self.random.choice([1, 1, 2, 3])
         conf = ["version = 1"] + (['order-log = "log"'] if count > 1 else [])
@@ -155,7 +159,7 @@ class Maker:
             if self.chance(0.2):
                 calls = [self.random.randrange(0, len(events) + 3) for _ in range(self.random.choice([1, 1, 2]))]
                 lines.append(f"fails {place} {' '.join(map(str, calls))}")
-        conf += ["[[output]]", 'name = "o"', 'kind = "view"', 'path = "out"', ""]
+        conf += self.intermediates() + ["[[output]]", 'name = "o"', 'kind = "view"', 'path = "out"', ""]
         return "\n".join([f"text conf {chr(10).join(conf).encode().hex()}", *lines]) + "\n"
 
 

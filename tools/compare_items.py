@@ -7,7 +7,7 @@
 Each script has up to three inputs over files, TCP and UDP, whose exporters send messages of a few domains: templates, options
 templates and withdrawals, the same again and others for the same ID, data before its template and with padding, values of
 varying length, sequence numbers that are right, skip, fall behind and wrap, export times that go back, messages that break a
-rule, and streams that close, with calls of a source that fail. What `PROGRAM items` prints of them is compared with what
+rule, and streams that close, with calls of a source that fail; and up to three intermediates, in half of the scripts. What `PROGRAM items` prints of them is compared with what
 tools/item_lines.py reads. The first script that differs is kept in the system's folder for temporary files. With the word `cases`
 in the place of the program the scripts are printed as cases, with what is to come of each.
 """
@@ -16,6 +16,7 @@ import sys
 
 sys.dont_write_bytecode = True
 
+import act_cases
 import compare_arrivals
 import compare_direct
 from compared import main
@@ -120,8 +121,33 @@ class Exporter(compare_direct.Maker):
         return self.random.choice(wrong)
 
 
+# The elements of most values.
+PAIRS = [{"id": 8}, {"id": 12}, {"pen": 9, "id": 8}]
+
+
 class Maker(compare_arrivals.Maker):
     """Makes scripts whose sources give what exporters send."""
+
+    def rule(self):
+        """A rule that some values pass, of those at random."""
+        test = self.random.choice(["present", "between", "prefix", "prefix"])
+        rule = {**self.random.choice([*PAIRS, {"id": 1}, {"id": 0}]), "test": test}
+        if test == "between":
+            rule |= {"low": self.random.choice([0, 1, 100]), "high": 2 ** self.random.choice([7, 30, 31])}
+        elif test == "prefix":
+            rule["value"] = f"{self.random.choice([0, 64, 128])}.0.0.0/{self.random.choice([1, 2])}"
+        return rule | {"act": self.random.choice(["keep", "drop"])}
+
+    def intermediate(self, number):
+        table = {"name": f"m{number}", "kind": self.random.choice(["filter", "filter", "anonymise"])}
+        if table["kind"] == "filter":
+            rules = [self.rule() for _ in range(self.random.randrange(4))]
+            return table | {"default": self.random.choice(["keep", "keep", "drop"]), "rule": rules}
+        return table | {"field": self.random.sample(PAIRS, self.random.randrange(1, 4)), "cut4": self.random.choice([0, 1, 2, 8, 24])}
+
+    def intermediates(self):
+        tables = [self.intermediate(number) for number in range(self.random.choice([0, 0, 0, 1, 2, 3]))]
+        return [line for table in tables for line in ("[[intermediate]]", *(f"{key} = {act_cases.toml(value)}" for key, value in table.items()))]
 
     def table(self, number, transport):
         lines, place = super().table(number, transport)

@@ -1,7 +1,7 @@
 //! Plays the inputs of scripts, as `script_text` reads them: each arrival is worked off by the input's parser, over a Site in
-//! memory, and becomes a message.
+//! memory, becomes a message, and goes through the intermediates of the description.
 //!
-//! `item_run items FILE ...` prints these messages, with what was counted; `item_run cases FILE ...` plays many scripts,
+//! `item_run items FILE ...` prints what these leave of the messages, with what was counted; `item_run cases FILE ...` plays many scripts,
 //! each beside lines that are to be printed of it, and tells those of which others came. docs/TESTS.md has all forms.
 #![tactic(auto)]
 

@@ -3,7 +3,6 @@ use Rattle.std.proofs.Common.{◌≡◌, ℕ, List, [], ◌∷◌, Option, Some,
 use Rattle.std.specs.List.{cons_option}
 use Rattle.config_spec.specs.declared.conf.StageConf.{StageConf}
 use Rattle.config_spec.specs.declared.conf.StageWork.{StageWork}
-use Rattle.run_spec.specs.Outcome.{DecodedSet}
 use Rattle.run_spec.specs.Work.{Item}
 use Rattle.run_spec.specs.Work.Item.{Data}
 use Rattle.result_spec.specs.Through.{items_through}

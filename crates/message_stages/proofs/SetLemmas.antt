@@ -1,5 +1,5 @@
 -- Sets of a message that are left, one after another.
-use Rattle.std.proofs.Common.{◌≡◌, ◌≢◌, ℕ, ◌+◌, ◌≤◌, Bool, true, false, cond, List, [], ◌∷◌, ◌++◌, length, map, take, drop, refl, ap, sym, subst, ◌∙◌, append-nil, length-append, zero-add, arith}
+use Rattle.std.proofs.Common.{◌≡◌, ◌≢◌, ℕ, Bool, true, false, cond, List, [], ◌∷◌, ◌++◌, length, map, take, drop, refl, ap, sym, subst, ◌∙◌, append-nil, length-append, zero-add, arith}
 use Rattle.std.specs.Prelude.{filter}
 use Rattle.std.specs.List.{AllByRecursion, list_any}
 use Rattle.std.proofs.lemmas.List.{map-append, drop-drop, drop_at}
@@ -65,21 +65,6 @@ behind_more works octets sets s =
     ap (sets_behind works) (map-append (set_of octets) sets (s ∷ []))
     ∙ (ap (filter has_records) (map-append (set_behind works) (map (set_of octets) sets) (set_of octets s ∷ []))
     ∙ filter-append has_records (map (set_behind works) (map (set_of octets) sets)) (set_behind works (set_of octets s) ∷ []))
-
--- nothing is left of it
-pub set_gone : (works : List StageWork) (octets : List ℕ) (sets : List DataSet) (copies : List ℕ) (left : List DataSet) (s : DataSet) (now : List ℕ) (places : List Place)
-    → places ≡ [] → AreLeft works s.def.value octets s.places.items now places → AreSetsLeft works octets sets copies left → AreSetsLeft works octets (sets ++ s ∷ []) copies left
-set_gone works octets sets copies left s now places none gone a = record {
-  are = a.are ∙ (sym (append-nil (sets_behind works (map (set_of octets) sets))) ∙ (ap (λ (l : List DecodedSet). sets_behind works (map (set_of octets) sets) ++ l) (sym goes) ∙ sym (behind_more works octets sets s)));
-  sound = a.sound;
-  none = a.none;
-}
-  where
-    records : records_behind works s.def.value (map (record_at s.def.value.fields octets) s.places.items) ≡ []
-    records = sym gone.are ∙ ap (map (record_at s.def.value.fields now)) none
-
-    goes : filter has_records (set_behind works (set_of octets s) ∷ []) ≡ []
-    goes = ap (λ (r : List Record). filter has_records (record { id = s.template; definition = s.def.value; records = r } ∷ [])) records
 
 -- these octets and these sets come of it
 set_added : (works : List StageWork) (octets : List ℕ) (sets : List DataSet) (now later : List ℕ) (left : List DataSet) (s t : DataSet) (places : List Place)

@@ -49,7 +49,9 @@ impl Rooms {
         ensures err { IfErr result (λ k. k < length stages.now) }
     {
         let DataMessage {
-            session, domain, ..
+            session,
+            domain,
+            ..
         } = *message;
         let octets = message.octets.as_slice();
         let found = self.prepared.find(session, domain, set.template, &set.def);

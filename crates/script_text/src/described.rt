@@ -1,4 +1,7 @@
 // What stands of a script's description and of its inputs.
+ghost use Rattle.std.specs.Prelude.{IfOk};
+ghost use Rattle.config_spec.specs.Form.{IsConf};
+
 use crate::fault::Fault;
 use col_base::{SessionKey, Transport};
 use site_io::{MemorySite, Site};
@@ -6,7 +9,9 @@ use startup_config::{Conf, ConfFault};
 use std::alloc::{AllocError, Global};
 
 /// The description of a Site's text `conf`.
-pub fn description_of(alloc: Global, site: &mut MemorySite) -> Result<Conf, Fault> {
+pub fn description_of(alloc: Global, site: &mut MemorySite) -> Result<Conf, Fault>
+    ensures { IfOk result IsConf }
+{
     let Ok(octets) = site.text("conf") else {
         return Err(Fault::Wrong("a text `conf` is wanted"));
     };

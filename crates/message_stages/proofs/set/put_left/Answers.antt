@@ -1,10 +1,9 @@
-use Rattle.std.proofs.Common.{◌≡◌, ◌≢◌, ◌++◌, ◌∷◌, [], ℕ, List, cond, false, length, map, rules, refl, ap, sym, subst, ◌∙◌}
+use Rattle.std.proofs.Common.{◌≡◌, ◌≢◌, ◌++◌, ◌∷◌, [], ℕ, List, cond, length, map, rules, refl, ap, sym, subst, ◌∙◌}
 use Rattle.std.specs.List.{list_any}
-use Rattle.pipeline_message.specs.declared.message.Place.{Place}
 use Rattle.pipeline_message.specs.declared.message.DataSet.{DataSet}
 use Rattle.stage_chain.specs.Behind.{changes}
 use Rattle.message_stages.specs.Sets.{AreSetsLeft, moved}
-use Rattle.message_stages.proofs.SetLemmas.{set_gone, set_left}
+use Rattle.message_stages.proofs.SetLemmas.{set_left}
 use Rattle.message_stages.proofs.set.put_left.Goals as goal
 
 pub returns : goal.returns
