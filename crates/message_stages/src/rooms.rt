@@ -20,6 +20,7 @@ pub(crate) struct Rooms {
 }
 
 impl Rooms {
+    ghost use Rattle.kept_forms.specs.Kept.{session_number, Forgets};
     ghost use Rattle.message_stages.specs.Sets.{AreReady};
 
     /// Nothing. It takes no memory.
@@ -81,7 +82,8 @@ impl Rooms {
 
     /// Lets go what is kept of a session.
     pub fn close(&mut self, session: SessionKey)
-        ensures { (works : List StageWork) → AreReady works self.old → AreReady works self.new }
+        ensures ready { (works : List StageWork) → AreReady works self.old → AreReady works self.new }
+        ensures forgets { Forgets (session_number session) self.old.prepared self.new.prepared }
     {
         self.prepared.close(session);
     }

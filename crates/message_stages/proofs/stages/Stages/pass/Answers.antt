@@ -20,7 +20,7 @@ returns-then-is_empty-clause-ok c = elim c.then-is_empty.branch [
 ]
 
 pub invariant_of-self-then-not-note : goal.invariant_of-self-then-not-note
-invariant_of-self-then-not-note c = c.close.ensures c.self.inside.stages.items c.self.invariant
+invariant_of-self-then-not-note c = c.close.ensures.ready c.self.inside.stages.items c.self.invariant
 
 pub returns-in_ok-left-in-DataMsg-clause-ok : goal.returns-in_ok-left-in-DataMsg-clause-ok
 returns-in_ok-left-in-DataMsg-clause-ok c =
