@@ -7,8 +7,10 @@
 
 mod lane_fault;
 mod message;
+mod place;
 mod run_counts;
 
 pub use lane_fault::LaneFault;
 pub use message::{DataMessage, DataSet, Msg, Place, SessionNote};
+pub use place::octets_at;
 pub use run_counts::RunCounts;

@@ -1,3 +1,3 @@
-pub mod FormLemmas
+pub mod ListedLemmas
 pub mod LineLemmas
 pub mod SetLemmas

@@ -1,10 +1,9 @@
 -- The text of the sets of a message, by what an output prints.
-use Rattle.std.specs.Prelude.{ℕ, if◌then◌else◌, List, [], Option, Some, None, map}
+use Rattle.std.specs.Prelude.{ℕ, List, Option, Some, None, map}
 use Rattle.wire_spec.specs.Content.{Definition}
 use Rattle.config_spec.specs.declared.conf.OutputKind.{OutputKind}
 use Rattle.config_spec.specs.declared.conf.OutputKind.TheVariants as O
 use Rattle.text_spec.specs.declared.element.Element.{Element}
-use Rattle.file_spec.specs.File.{has_records}
 use Rattle.run_spec.specs.Outcome.{DecodedSet}
 use Rattle.run_spec.specs.Result.{set_text as lines_of_set}
 use Rattle.run_spec.specs.View.{set_view}
@@ -22,10 +21,6 @@ text_kind O.View = Some View
 abbrev pub set_text : TextKind → List Element → DecodedSet → List ℕ
 set_text (Json options) table d = lines_of_set options table d
 set_text View table d = set_view table d
-
--- a set of which nothing is left has no text
-abbrev pub left_text : TextKind → List Element → DecodedSet → List ℕ
-left_text kind table d = if has_records d then set_text kind table d else []
 
 -- the set of the records at these places
 abbrev pub set_in : Definition → ℕ → List ℕ → List Place → DecodedSet

@@ -1,15 +1,13 @@
 -- What forms are made of, as contracts see it.
 use Rattle.std.specs.Prelude.{List}
-use Rattle.config_spec.specs.declared.conf.StageWork.{StageWork}
 use Rattle.text_spec.specs.declared.element.Element.{Element}
 use Rattle.text_forms.specs.declared.kind.TextKind.{TextKind}
 use Rattle.text_forms.specs.declared.maker.Maker.{Maker}
 
--- what is printed, by which elements, behind which intermediates
+-- what is printed, by which elements
 pub record Made : Type 0 where
   pub kind : TextKind
   pub elements : List Element
-  pub stages : List StageWork
 
 abbrev pub made_of : Maker → Made
-made_of maker = record { kind = maker.kind; elements = maker.elements.value; stages = maker.stages.items }
+made_of maker = record { kind = maker.kind; elements = maker.elements.value }

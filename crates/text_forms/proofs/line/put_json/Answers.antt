@@ -3,7 +3,7 @@ use Rattle.std.proofs.lemmas.List.{take_more}
 use Rattle.pipeline_message.specs.declared.message.Place.{Place}
 use Rattle.pipeline_message.specs.Items.{IsRecordAt, record_at}
 use Rattle.json_output.specs.Printed.{records_text}
-use Rattle.stage_chain.proofs.LeftLemmas.{first_place}
+use Rattle.pipeline_message.proofs.PlaceLemmas.{first_place}
 use Rattle.text_forms.proofs.LineLemmas.{json_more}
 use Rattle.text_forms.proofs.line.put_json.Goals as goal
 

@@ -5,7 +5,7 @@ use Rattle.text_spec.specs.View.{view_line}
 use Rattle.run_spec.specs.Records.{Record}
 use Rattle.pipeline_message.specs.declared.message.Place.{Place}
 use Rattle.pipeline_message.specs.Items.{IsRecordAt, record_at}
-use Rattle.stage_chain.proofs.LeftLemmas.{first_place}
+use Rattle.pipeline_message.proofs.PlaceLemmas.{first_place}
 use Rattle.text_forms.proofs.LineLemmas.{view_more}
 use Rattle.text_forms.proofs.line.put_view.Goals as goal
 

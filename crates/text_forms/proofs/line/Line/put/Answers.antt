@@ -1,5 +1,5 @@
 use Rattle.std.proofs.Common.{◌≡◌, length, rules}
-use Rattle.text_forms.proofs.FormLemmas.{set_listed}
+use Rattle.text_forms.proofs.ListedLemmas.{set_listed}
 use Rattle.text_forms.proofs.line.Line.put.Goals as goal
 
 pub returns-in_ok-put_view-in-View-clause-text : goal.returns-in_ok-put_view-in-View-clause-text

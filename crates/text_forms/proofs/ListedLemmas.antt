@@ -1,10 +1,9 @@
--- Forms of definitions.
+-- A set in a listing.
 use Rattle.std.proofs.Common.{◌≡◌, ℕ, List, [], ◌∷◌, ◌++◌, length, map, ap, sym, subst, ◌∙◌, append_assoc}
 use Rattle.std.specs.List.{flat_map}
 use Rattle.std.proofs.lemmas.List.{length-map}
 use Rattle.wire_spec.specs.declared.field.FieldSpec.{FieldSpec}
 use Rattle.wire_spec.specs.Content.{Definition}
-use Rattle.config_spec.specs.declared.conf.StageWork.{StageWork}
 use Rattle.text_spec.specs.declared.element.Element.{Element}
 use Rattle.text_spec.specs.View.{set_line, view_line}
 use Rattle.run_spec.specs.Records.{Record}
@@ -12,20 +11,12 @@ use Rattle.pipeline_message.specs.declared.message.Place.{Place}
 use Rattle.pipeline_message.specs.Items.{record_at}
 use Rattle.prepared_lines.specs.Line as prepared
 use Rattle.viewer_output.specs.View.{Shows}
-use Rattle.stage_chain.specs.declared.stage.PreparedStage.{PreparedStage}
-use Rattle.stage_chain.specs.Suits.{SuitsStage, AreSuited}
 use Rattle.text_forms.specs.declared.kind.TextKind.{TextKind}
 use Rattle.text_forms.specs.declared.kind.TextKind.TheVariants as K
 use Rattle.text_forms.specs.declared.line.Line.{Line}
 use Rattle.text_forms.specs.declared.line.Line.TheVariants.{View}
 use Rattle.text_forms.specs.Kind.{set_in, set_text}
 use Rattle.text_forms.specs.Line.{LineFits}
-
-pub suited_more : (works : List StageWork) (fields : List FieldSpec) (prepared : List PreparedStage) (w : StageWork) (p : PreparedStage) → AreSuited works fields prepared → SuitsStage w fields p → AreSuited (works ++ w ∷ []) fields (prepared ++ p ∷ [])
-suited_more [] fields [] w p s is = (is, tt)
-suited_more [] fields (q ∷ prepared) w p s is = absurd s
-suited_more (v ∷ works) fields [] w p s is = absurd s
-suited_more (v ∷ works) fields (q ∷ prepared) w p s is = (s.0, suited_more works fields prepared w p s.1 is)
 
 -- a set is listed: its own line, and its records
 pub set_listed : (kind : TextKind) (table : List Element) (def : Definition) (template count : ℕ) (octets : List ℕ) (places : List Place) (this : Line) (line : prepared.Line) (before now later : List ℕ) → this ≡ View line → LineFits kind table def this

@@ -1,6 +1,0 @@
-use Rattle.std.proofs.Common.{take}
-use Rattle.stage_chain.specs.Suits.{AreSuited}
-use Rattle.text_forms.proofs.form.prepare_stages.Given as goal
-
-abbrev pub invariant-loop-index : goal.invariant-loop-index
-invariant-loop-index l = AreSuited (take l.index l.stages) l.def.fields l.prepared.items
