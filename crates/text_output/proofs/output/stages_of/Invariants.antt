@@ -1,6 +1,0 @@
-use Rattle.std.proofs.Common.{◌≡◌, take}
-use Rattle.stage_chain.specs.Behind.{works_of}
-use Rattle.text_output.proofs.output.stages_of.Given as goal
-
-abbrev pub invariant-loop-index : goal.invariant-loop-index
-invariant-loop-index l = l.made.items ≡ works_of (take l.index l.stages)
