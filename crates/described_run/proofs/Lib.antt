@@ -1,1 +1,2 @@
 pub mod OverLemmas
+pub mod TakerLemmas

@@ -74,11 +74,11 @@ fn begin_outputs<T: MessageTexts + Drop, K: Sink>(
     ensures go_on { AllByRecursion (λ o. o.fault ≡ None) outputs.new.items }
     ensures room { vec_capacity sinks.new ≡ vec_capacity sinks.old }
 {
-    let mut texts = texts;
-    while let Some(texts) = texts.pop() {
-        begin_last(texts, sinks, outputs);
+    let mut makers = texts;
+    while let Some(maker) = makers.pop() {
+        begin_last(maker, sinks, outputs);
     }
-    texts.destroy_empty();
+    makers.destroy_empty();
     turn_round(outputs);
 }
 
@@ -135,12 +135,12 @@ fn end_outputs<T: Drop, K>(outputs: Vec<Output<T, K>>, sinks: &mut Vec<K>)
     requires { vec_len sinks.old + length outputs.items ≤ vec_capacity sinks.old }
     ensures { sinks.new.items ≡ sinks.old.items ++ output_sinks outputs.items }
 {
-    let mut outputs = outputs;
-    turn_round(&mut outputs);
-    while let Some(output) = outputs.pop() {
+    let mut left = outputs;
+    turn_round(&mut left);
+    while let Some(output) = left.pop() {
         put(sinks, sink_of(output));
     }
-    outputs.destroy_empty();
+    left.destroy_empty();
 }
 
 /// Gives the sink of a log back, if there is one, into a vector that has room for it. It takes no memory.

@@ -1,10 +1,9 @@
 -- What came of the outputs of a run.
-use Rattle.std.proofs.Common.{◌≡◌, ℕ, suc, ◌<◌, Bool, true, false, List, [], ◌∷◌, ◌++◌, Option, Some, None, length, map, take, replicate, set, refl, ap, sym, subst, ◌∙◌, arith, append-nil, append_assoc}
+use Rattle.std.proofs.Common.{◌≡◌, ℕ, suc, ◌<◌, Bool, true, false, List, [], ◌∷◌, ◌++◌, Option, Some, None, length, map, take, replicate, set, refl, ap, sym, subst, ◌∙◌, arith, append-nil}
 use Rattle.std.specs.Prelude.{MatchOption, is_some, nat_lt, slice_get}
 use Rattle.std.specs.List.{AllByRecursion, list_any}
 use Rattle.std.proofs.lemmas.List.{get_or-set_same, length-replicate, length-set, take_all}
 use Rattle.std.proofs.lemmas.List.Folds.{list_any_at}
-use Rattle.config_spec.specs.declared.conf.Conf.{Conf}
 use Rattle.config_spec.specs.declared.conf.OutputConf.{OutputConf}
 use Rattle.config_spec.specs.declared.conf.OutputKind.{OutputKind}
 use Rattle.config_spec.specs.declared.conf.OutputKind.TheVariants.{Json, Ipfix, View}
@@ -198,17 +197,17 @@ module _ {T K : Type 0} (stands : OutputConf → List Element → List Item → 
   -- of all outputs
   module _ (rows : List Element) (cut : Bool) (items front rest : List Item) (is : items ≡ front ++ rest) (none : cut ≡ false → rest ≡ []) (b e : List ℕ → SinkSeen) (Began Shown : ℕ → List ℕ → K → Type 0)
       (told_of : (k m : ℕ) (name : List ℕ) (first sink : K) → Began k name first → Shown m name sink → Told (b name).held (e name).held (held first) (held sink)) (fresh_of : (k : ℕ) (name : List ℕ) (first : K) → Began k name first → faults first ≡ 0) where
-    pub all_came : (n : ℕ) (outputs : List OutputConf) (firsts nows : List (Output T K)) → Each Began n (at_of (map output_party outputs)) (output_sinks firsts) → Each Shown n (at_of (map output_party outputs)) (output_sinks nows)
+    pub all_outputs : (n : ℕ) (outputs : List OutputConf) (firsts nows : List (Output T K)) → Each Began n (at_of (map output_party outputs)) (output_sinks firsts) → Each Shown n (at_of (map output_party outputs)) (output_sinks nows)
         → AllByRecursion (λ (x : Output T K). x.fault ≡ None) firsts → Each (λ _ o t. stands o rows [] t) n outputs (map (λ (x : Output T K). x.texts) firsts) → Each (λ _ first now. HasFrom stands held total faults front first now) n firsts nows
         → Each (λ _ o (now : Output T K). OutputCame rows cut items b e o now.sink now.fault) n outputs nows
-    all_came n [] [] [] g s calm_all t h = tt
-    all_came n [] [] (now ∷ nows) g s calm_all t h = absurd h
-    all_came n [] (first ∷ firsts) nows g s calm_all t h = absurd g
-    all_came n (o ∷ outputs) [] nows g s calm_all t h = absurd g
-    all_came n (o ∷ outputs) (first ∷ firsts) [] g s calm_all t h = absurd h
-    all_came n (o ∷ outputs) (first ∷ firsts) (now ∷ nows) g s calm_all t h = (
-      output_came rows b e o first now (told_of n n o.path first.sink now.sink g.0 s.0) (fresh_of n o.path first.sink g.0) cut items front rest is none (h.0 o rows t.0 calm_all.0),
-      all_came (suc n) outputs firsts nows g.1 s.1 calm_all.1 t.1 h.1,
+    all_outputs n [] [] [] g s goes t h = tt
+    all_outputs n [] [] (now ∷ nows) g s goes t h = absurd h
+    all_outputs n [] (first ∷ firsts) nows g s goes t h = absurd g
+    all_outputs n (o ∷ outputs) [] nows g s goes t h = absurd g
+    all_outputs n (o ∷ outputs) (first ∷ firsts) [] g s goes t h = absurd h
+    all_outputs n (o ∷ outputs) (first ∷ firsts) (now ∷ nows) g s goes t h = (
+      output_came rows b e o first now (told_of n n o.path first.sink now.sink g.0 s.0) (fresh_of n o.path first.sink g.0) cut items front rest is none (h.0 o rows t.0 goes.0),
+      all_outputs (suc n) outputs firsts nows g.1 s.1 goes.1 t.1 h.1,
     )
 
   -- whose sink failed

@@ -1,6 +1,6 @@
 -- What a whole run over a Site comes to.
 use Rattle.std.proofs.Common.{◌≡◌, ℕ, suc, ◌≤◌, Bool, false, List, [], ◌∷◌, ◌++◌, Option, Some, None, length, map, refl, ap, sym, subst, ◌∙◌, arith, append_assoc}
-use Rattle.std.specs.Prelude.{MatchOption, nat_lt, option_to_list, slice_get}
+use Rattle.std.specs.Prelude.{MatchOption, nat_lt, slice_get}
 use Rattle.std.proofs.lemmas.List.{length-append, length-map}
 use Rattle.arrival_spec.specs.declared.event.Scripted.{Scripted}
 use Rattle.config_spec.specs.declared.conf.Conf.{Conf}
@@ -26,7 +26,6 @@ use Rattle.call_spec.proofs.NameLemmas.{members}
 use Rattle.call_spec.proofs.PairLemmas.{same_length}
 use Rattle.call_spec.specs.Plan.{described_parties, input_party, output_party}
 use Rattle.call_spec.specs.Plan.Plan.{Described}
-use Rattle.stage_chain.specs.Behind.{works_of}
 use Rattle.logged_outputs.specs.declared.logged.LoggedOutputs.{LoggedOutputs}
 use Rattle.logged_outputs.specs.declared.output.Output.{Output}
 use Rattle.logged_outputs.specs.Behind.{AllHave, CutShort}
@@ -45,11 +44,11 @@ use Rattle.site_openings.specs.Places.{all_left, place_faults, place_left, place
 use Rattle.site_openings.specs.Sinks.{nothing_held, sink_faults, sink_held, sink_openings, sink_out}
 use Rattle.run_came.specs.Ends.{log_fault, wanting}
 use Rattle.run_inputs.specs.Made.{sources_of}
-use Rattle.run_came.specs.Ran.{RanOver, output_sinks, sinks_of}
+use Rattle.run_came.specs.Ran.{RanOver, sinks_of}
 use Rattle.run_came.specs.Told.{CameToRun, IsNoted, TellsRun}
 use Rattle.run_came.proofs.InputLemmas.{all_failed, all_gave, ends_same, place_kept, places_are}
 use Rattle.run_came.proofs.SinkLemmas.{LogHeld, SinksCame, sink_kept, sinks_came, told_of}
-use Rattle.run_came.proofs.OutputLemmas.{AllWent, OutputCame, all_came, all_marked, all_went, located, nows_long, wanting_long}
+use Rattle.run_came.proofs.OutputLemmas.{AllWent, OutputCame, all_marked, all_outputs, all_went, located, nows_long, wanting_long}
 
 text_kept : (x y : TextSeen) → y ≡ x → TextKept false x y
 text_kept x y e = record { octets = ap (λ (t : TextSeen). t.octets) e; faults = ap (λ (t : TextSeen). t.faults) e }
@@ -182,7 +181,7 @@ module _ {S T K : Type 0} (left : S → Option (List Scripted)) (faults : S → 
 
     outputs_came : HasCome r.out.0.sink r.half_closed.sink
     outputs_came =
-        all_came stands held total own_faults rows cut items all_wrote.front all_wrote.rest all_wrote.whole all_wrote.all r.out.0.sink r.half_closed.sink
+        all_outputs stands held total own_faults rows cut items all_wrote.front all_wrote.rest all_wrote.whole all_wrote.all r.out.0.sink r.half_closed.sink
         (Begins sink_held sink_faults sink_openings sink_out held own_faults nothing_held r.out.0.sink)
         (λ k name sink. Shows sink_held sink_faults sink_openings sink_out held own_faults names r.half_closed.sink k name sink × (1 ≤ times name names))
         (told_of held own_faults names distinct took.front took.rest r.out.0.sink r.half_closed.sink ats firsts nows ats_long)

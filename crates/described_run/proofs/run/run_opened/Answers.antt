@@ -6,7 +6,7 @@ use Rattle.described_run.proofs.run.run_opened.Goals as goal
 pub make_inputs-requires-clause-long : goal.make_inputs-requires-clause-long
 make_inputs-requires-clause-long g c κs within =
     let o = c.requires.out in
-    sources_long g.S.Src.Source.left g.S.Src.Source.faults g.T.MessageTexts.stands g.S.Out.Sink.held g.S.Out.Sink.faults c.args.conf.now c.requires.one_output c.args.names.now c.requires.named c.args.opened.sources.items c.args.opened.sinks.items o.0 (g.S.Site.seen c.args.site.now) o.1
+    sources_long g.S.Src.Source.left g.S.Src.Source.faults g.T.MessageTexts.stands g.S.Out.Sink.held g.S.Out.Sink.total g.S.Out.Sink.faults c.args.conf.now c.args.names.now c.requires.named c.args.opened.sources.items c.args.opened.sinks.items o.0 (g.S.Site.seen c.args.site.now) o.1
 
 pub returns-in-Ok-clause-ran : goal.returns-in-Ok-clause-ran
 returns-in-Ok-clause-ran g c old out = c.run_over.ensures old c.args.opened.sources.items out c.in-Ok.ensures.made

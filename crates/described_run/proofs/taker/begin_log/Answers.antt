@@ -1,5 +1,0 @@
-use Rattle.std.proofs.Common.{refl}
-use Rattle.described_run.proofs.taker.begin_log.Goals as goal
-
-pub returns-in-Some : goal.returns-in-Some
-returns-in-Some g c output = rw c.in-Some.is ((c.new.result, refl, c.new.ensures), refl)
