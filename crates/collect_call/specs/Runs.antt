@@ -11,7 +11,7 @@ use Rattle.call_spec.specs.Leaves.{sink_names}
 use Rattle.call_spec.specs.Plan.{Plan, described_parties}
 use Rattle.call_spec.specs.Plan.Plan.{Described}
 use Rattle.stage_chain.specs.Behind.{works_of}
-use Rattle.output_texts.specs.Makes.{Makes}
+use Rattle.output_texts.specs.Texts.{Stands}
 use Rattle.collect_call.specs.declared.prepare.Prepared.{Prepared}
 
 -- what may come of a description: it is opened and run
@@ -34,4 +34,4 @@ RunsOf conf rows text plan came = (plan ≡ Described conf rows) × IsOfRun came
 pub record IsPrepared (conf : Conf) (rows : List Element) (p : Prepared) : Type 0 where
   pub named : p.names.items ≡ sink_names (described_parties conf)
   pub works : p.stages ≡ works_of conf.stages
-  pub makes : Each (λ _ output t. Makes output rows [] t) 0 conf.outputs p.texts.items
+  pub makes : Each (λ _ output t. Stands output rows [] t) 0 conf.outputs p.texts.items

@@ -5,7 +5,7 @@ ghost use Rattle.config_spec.specs.Description.{description};
 ghost use Rattle.config_spec.specs.Form.{IsStage};
 ghost use Rattle.call_spec.specs.Pairs.{Each};
 ghost use Rattle.stage_chain.specs.Behind.{works_of};
-ghost use Rattle.output_texts.specs.Makes.{Makes};
+ghost use Rattle.output_texts.specs.Texts.{Stands};
 ghost use Rattle.collect_call.specs.Runs.{IsPrepared};
 
 use col_base::Text;
@@ -34,7 +34,7 @@ fn texts_of(
     outputs: &[OutputConf],
     elements: &Arc<Elements>,
 ) -> Result<Vec<OutputTexts>, AllocError>
-    ensures { IfOk result (λ texts. Each (λ _ output t. Makes output elements.now.value [] t) 0 outputs.now texts.items) }
+    ensures { IfOk result (λ texts. Each (λ _ output t. Stands output elements.now.value [] t) 0 outputs.now texts.items) }
 {
     let mut texts = Vec::with_capacity(alloc, outputs.len())?;
     for output in outputs {

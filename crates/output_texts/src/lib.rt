@@ -1,7 +1,6 @@
-//! What makes the text of an output of any kind: lines of JSON or a listing (`text_output`), or an IPFIX File (`file_texts`).
+//! The text of any output of a description: of lines of JSON, a listing, or an IPFIX File, as the output wants it.
 //!
-//! `OutputTexts` implements `MessageTexts` by the maker of the output's kind, so that a run has one list of makers for all of
-//! its outputs.
+//! `OutputTexts` implements `MessageTexts` by what makes the text of its kind, and stands for what that stands for.
 #![tactic(auto)]
 
 mod texts;

@@ -1,4 +1,4 @@
-// The texts of an output of any kind.
+// The text of an output of any kind.
 ghost use Rattle.std.specs.Prelude.{[], IfOk};
 
 use config_spec::OutputConf;
@@ -10,42 +10,42 @@ use std::alloc::{AllocError, Global};
 use std::sync::Arc;
 use text_output::TextOutput;
 
-/// Makes the text of an output, by its kind.
+/// Makes the text of an output of any kind.
 #[derive(Drop)]
 pub enum OutputTexts {
     /// Lines of JSON, or a listing.
     Text(TextOutput),
-    /// The messages of an IPFIX File.
+    /// An IPFIX File.
     File(FileTexts),
 }
 
 impl OutputTexts {
-    ghost use Rattle.output_texts.specs.Makes.{Makes};
+    ghost use Rattle.output_texts.specs.Texts.{Stands};
 
-    /// What makes the text of this output, by these elements, of which none was made yet.
+    /// The text of an output of a description, by these elements, to which nothing came yet.
     pub fn new(
         alloc: Global,
         output: &OutputConf,
         elements: &Arc<Elements>,
     ) -> Result<OutputTexts, AllocError>
-        ensures { IfOk result (Makes output.now elements.now.value []) }
+        ensures { IfOk result (Stands output.now elements.now.value []) }
     {
-        if let Some(files) = FileTexts::new(alloc, output)? {
-            return Ok(OutputTexts::File(files));
+        if let Some(texts) = FileTexts::new(alloc, output)? {
+            return Ok(OutputTexts::File(texts));
         }
         match TextOutput::new(alloc, output, elements.clone()?)? {
-            Some(text) => Ok(OutputTexts::Text(text)),
+            Some(texts) => Ok(OutputTexts::Text(texts)),
             None => unreachable!(),
         }
     }
 }
 
 impl MessageTexts for OutputTexts {
-    ghost use Rattle.output_texts.specs.Makes.{Makes, last_text};
+    ghost use Rattle.output_texts.specs.Texts.{Stands, text_of};
 
-    ghost stands = { Makes };
+    ghost stands = { Stands };
 
-    ghost last = { last_text };
+    ghost last = { text_of };
 
     fn put(&mut self, message: &Msg) -> Result<(), TextFault> {
         match self {

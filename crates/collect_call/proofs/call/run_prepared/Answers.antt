@@ -1,6 +1,6 @@
 use Rattle.std.proofs.Common.{[], sym, subst, ◌∙◌, arith}
 use Rattle.call_spec.proofs.PairLemmas.{same_length}
-use Rattle.output_texts.specs.Makes.{Makes}
+use Rattle.output_texts.specs.Texts.{Stands}
 use Rattle.config_spec.proofs.ConfLemmas.{keep_form}
 use Rattle.site_openings.specs.Out.{AreDistinct}
 use Rattle.described_sinks.proofs.DistinctLemmas.{distinct_names}
@@ -15,7 +15,7 @@ pub run_described-requires-clause-works : goal.run_described-requires-clause-wor
 run_described-requires-clause-works g c κs within = c.requires.prepared.1.works
 
 pub run_described-requires-clause-makers : goal.run_described-requires-clause-makers
-run_described-requires-clause-makers g c κs within = sym (same_length (λ _ output t. Makes output c.requires.prepared.0 [] t) 0 c.args.conf.now.outputs c.args.prepared.texts.items c.requires.prepared.1.makes)
+run_described-requires-clause-makers g c κs within = sym (same_length (λ _ output t. Stands output c.requires.prepared.0 [] t) 0 c.args.conf.now.outputs c.args.prepared.texts.items c.requires.prepared.1.makes)
 
 pub run_described-requires-clause-few : goal.run_described-requires-clause-few
 run_described-requires-clause-few g c κs within = let few = (keep_form c.requires.described.0 c.args.conf.now c.requires.described.1).few_inputs in omega arith
