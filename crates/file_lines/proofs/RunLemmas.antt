@@ -82,7 +82,6 @@ grows_wanting : (f : Option OutsideFault) (old new : Option (List ℕ)) (text mo
 grows_wanting None old new text more g = front_whole old new text more g
 grows_wanting (Some f) old new text more g = front_longer old new text more g
 
-
 -- ---- how reading stands
 
 abbrev Given : Type 0
