@@ -135,7 +135,11 @@ fn run_opened<R: Wait + Clock, S: Site, T: MessageTexts + Drop>(
             Ok(())
         }
         Err(want) => {
-            let Ready { room, .. } = ready;
+            let Ready {
+                stages: _stages,
+                texts: _texts,
+                room,
+            } = ready;
             room.destroy_empty();
             back_unused(conf, names, Opened { sources, sinks }, site);
             Err(want)
