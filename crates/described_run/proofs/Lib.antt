@@ -1,2 +1,1 @@
 pub mod OverLemmas
-pub mod TakerLemmas

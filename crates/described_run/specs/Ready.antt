@@ -1,5 +1,5 @@
 -- What is made ready for a run before anything is opened, and outputs that have begun.
-use Rattle.std.specs.Prelude.{ℕ, ◌≡◌, ◌≤◌, [], List, None, length, vec_capacity}
+use Rattle.std.specs.Prelude.{◌≡◌, ◌≤◌, [], None, length, vec_capacity}
 use Rattle.config_spec.specs.declared.conf.Conf.{Conf}
 use Rattle.logged_outputs.specs.declared.output.Output.{Output}
 use Rattle.stage_chain.specs.Behind.{works_of}
