@@ -170,8 +170,8 @@ class Maker(compare_arrivals.Maker):
         output = {"name": f"o{number}", "kind": kind, "path": f"out{number}"}
         if kind == "json" and self.chance(0.4):
             output["options"] = self.chance(0.3)
-        if kind == "ipfix" and self.chance(0.4):
-            output["last-template-id"] = self.random.choice([256, 256, 257, 258, 259, 260, 65534])
+        if kind == "ipfix" and self.chance(0.6):
+            output["last-template-id"] = self.random.choice([256, 256, 256, 257, 257, 258, 259, 260, 65534])
         if self.chance(0.3):
             output[self.random.choice(["odid-only", "odid-except"])] = self.random.choice(DOMAINS)
         return output
