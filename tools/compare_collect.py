@@ -4,11 +4,11 @@
     tools/compare_collect.py crates/script_run/out/script_run 2000
     tools/compare_collect.py tally 2000
 
-Each script has a description with up to four inputs over files, TCP and UDP, element tables, intermediates and an output, and
-now and then one that isn't built; sources of what exporters send, and of events in any order; and an outside that fails here
-and there. What `PROGRAM FILE` prints of it is compared with what tools/runs.py reads. The first script that differs is kept in
-the system's folder for temporary files. With the word `tally` in the place of the program, what happens in the scripts is
-counted.
+Each script has a description with up to four inputs over files, TCP and UDP, element tables, intermediates, and up to four
+outputs of all kinds, with domains and limits; sources of what exporters send, and of events in any order; and an outside that
+fails here and there. What `PROGRAM FILE` prints of it is compared with what tools/runs.py reads. The first script that
+differs is kept in the system's folder for temporary files. With the word `tally` in the place of the program, what happens in
+the scripts is counted.
 """
 
 import collections
@@ -28,6 +28,9 @@ from exporters import ELEMENTS, NUMBERS, OPTIONS, TEMPLATES, Exporter, a_definit
 LONG = 20
 
 MOST_DOMAINS = 1024
+
+# Domains as descriptions write them. Exporters have 0, 1, 2 and the last one.
+DOMAINS = ["0", "1", "02", "1-2", "0,4294967295", "0-1,2-4294967294", "3-4294967295", "5,1,1", "0-4294967295", "7-400,90"]
 
 TABLES = {
     "first.toml": [
@@ -161,21 +164,20 @@ class Maker(compare_arrivals.Maker):
             table |= {"cut4": self.random.randrange(33), "cut6": self.random.randrange(129)}
         return table
 
-    def outputs(self):
-        kind = self.random.choice(["json", "json", "view"])
-        output = {"name": "o", "kind": kind, "path": "out"}
+    def output(self, number):
+        """An output, of some domains now and then."""
+        kind = self.random.choice(["json", "ipfix", "view"])
+        output = {"name": f"o{number}", "kind": kind, "path": f"out{number}"}
         if kind == "json" and self.chance(0.4):
             output["options"] = self.chance(0.3)
-        if self.chance(0.98):
-            return [output]
-        return self.random.choice(
-            [
-                [output, {"name": "o2", "kind": "view", "path": "out2"}],
-                [{"name": "o", "kind": "ipfix", "path": "out"}],
-                [output | {"odid-only": "0-2"}],
-                [output | {"odid-except": "1"}],
-            ]
-        )
+        if kind == "ipfix" and self.chance(0.6):
+            output["last-template-id"] = self.random.choice([256, 256, 256, 257, 257, 258, 259, 260, 65534])
+        if self.chance(0.3):
+            output[self.random.choice(["odid-only", "odid-except"])] = self.random.choice(DOMAINS)
+        return output
+
+    def outputs(self):
+        return [self.output(number) for number in range(self.random.choice([1, 1, 2, 2, 3, 4]))]
 
     def elements(self):
         """The names of element tables, some of which can't be read together."""
@@ -211,7 +213,7 @@ class Maker(compare_arrivals.Maker):
             return []
         if self.chance(0.85):
             return [f"sink {name}"]
-        fails = [f"{self.random.randrange(0, most)}:{self.random.choice([0, 1, 2, 5, 40])}" for _ in range(2)]
+        fails = [f"{self.random.randrange(0, most)}:{self.random.choice([0, 1, 2, 5, 15, 16, 40])}" for _ in range(2)]
         return [f"sink {name}", f"sinkfails {name} {' '.join(fails[: self.random.choice([1, 1, 2])])}"]
 
     def some_definitions(self):
@@ -239,7 +241,8 @@ class Maker(compare_arrivals.Maker):
             lines += self.sink("log", 40)
         stages = [self.intermediate(number) for number in range(self.random.choice([0, 0, 0, 1, 1, 2, 3]))]
         description |= {"intermediate": stages, "output": self.outputs()}
-        lines += self.sink("out", 12) + ["sink out2"]
+        for output in description["output"]:
+            lines += self.sink(output["path"], 12)
         if self.chance(0.06):
             lines.append(f"sayfails {self.random.randrange(0, 18)}:{self.random.choice([0, 1, 5, 40])}")
         return "\n".join(self.call() + self.texts(description) + lines) + "\n"

@@ -8,6 +8,7 @@ crates' data/, and which messages in their cases, have other octets than the con
 """
 
 import glob
+import hashlib
 import os
 import re
 import sys
@@ -405,6 +406,24 @@ def hundred_flows():
     return file
 
 
+def file_options():
+    """A flow, and records of options: the flow keys of its template (RFC 7011, section 4.4), the checksum of the message
+    (RFC 5655, section 8.1.1), which is worked out with zeros in its place, and the name of an interface. The first two
+    hold of this file alone."""
+    templates = "00020014 01000003 00080004 000c0004 00010004"
+    options = (
+        "0003002e 01010002 0001 00910002 00ad0008 01020002 0001 01070001 01060010"
+        " 01030002 0001 000a0004 0052ffff"
+    )
+    flow = "01000010 0a000001 0a000002 000003e8"
+    keys = "0101000e 0100 0000000000000003"
+    checksum = "01020015 00"
+    interface = "0103000d 00000007 0465746830"
+    front = bytes.fromhex(f"000a0092 00000064 00000000 00000001 {templates} {options} {flow} {keys} {checksum}")
+    behind = bytes.fromhex(interface)
+    return front + hashlib.md5(front + bytes(16) + behind).digest() + behind
+
+
 def write_files():
     os.makedirs("examples", exist_ok=True)
     for name, (_, octets) in MESSAGES.items():
@@ -412,6 +431,8 @@ def write_files():
             file.write(octets)
     with open("examples/hundred_flows.ipfix", "wb") as file:
         file.write(hundred_flows())
+    with open("examples/file_options.ipfix", "wb") as file:
+        file.write(file_options())
 
 
 def constants():

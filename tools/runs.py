@@ -13,8 +13,9 @@ import tomllib
 
 sys.dont_write_bytecode = True
 
-from act_cases import changed, is_kept
 from arrivals import octets_of, place_of
+from file_texts import AtLimit, File
+from item_lines import records_behind
 from items import COUNTS, read_input
 from json_lines import BUILTIN, element_of, line_of
 from value_texts import text_of
@@ -103,25 +104,33 @@ def elements_of(script, names):
     return known
 
 
-def is_built(description):
-    outputs = description["output"]
-    return len(outputs) == 1 and outputs[0]["kind"] != "ipfix" and not {"odid-only", "odid-except"} & set(outputs[0])
-
-
 def through(stages, sets):
     """What the intermediates leave of sets, each a Template ID, a definition and records. Sets without records go."""
     for stage in stages:
-        left = []
-        for template, definition, records in sets:
-            fields = [(pen, number, length) for pen, number, length in definition[2]]
-            if stage["kind"] == "filter":
-                records = [values for values in records if is_kept(stage, fields, values)]
-            else:
-                records = [changed(stage, fields, values) for values in records]
-            if records:
-                left.append((template, definition, records))
-        sets = left
+        left = [(template, definition, records_behind(stage, definition[2], records)) for template, definition, records in sets]
+        sets = [each for each in left if each[2]]
     return sets
+
+
+def is_in(domain, domains):
+    """Whether a domain is one of these, as `1,3-5` writes them."""
+    for part in domains.split(","):
+        low, _, high = part.partition("-")
+        if int(low) <= domain <= int(high or low):
+            return True
+    return False
+
+
+def comes_to(output, item):
+    """Whether an item comes to an output: a message has sets, and is of a domain of the output."""
+    if item[0] != "message":
+        return True
+    domain, sets = item[3], item[-1]
+    if not sets:
+        return False
+    if "odid-only" in output:
+        return is_in(domain, output["odid-only"])
+    return not ("odid-except" in output and is_in(domain, output["odid-except"]))
 
 
 def json_text(output, known, item):
@@ -149,13 +158,49 @@ def view_text(known, item):
             return f"tick {number} {seconds}\n"
         case ("message", number, session, domain, export, sequence, sets):
             count = sum(len(records) for _, _, records in sets)
-            if not count:
-                return ""
             text = f"message {number}/{session} domain {domain} export {export} sequence {sequence} records {count}\n"
             for template, definition, records in sets:
                 text += f"  template {template} records {len(records)}\n"
                 text += "".join(listed(known, definition, values) for values in records)
             return text
+
+
+class Output:
+    """An output of a run over its sink. It ends where that fails, or where a file has no number left."""
+
+    def __init__(self, table, known, sink):
+        self.table, self.known, self.sink = table, known, sink
+        self.file = File(table.get("last-template-id", 65535))
+        self.is_full = False
+
+    def text(self, item):
+        if self.table["kind"] == "json":
+            return json_text(self.table, self.known, item).encode()
+        if self.table["kind"] == "view":
+            return view_text(self.known, item).encode()
+        if item[0] != "message":
+            return b""
+        domain, export, _, sets = item[3:]
+        return self.file.take(domain, export, [(definition, records) for _, definition, records in sets])
+
+    def take(self, item):
+        if self.is_full or self.sink.failed or not comes_to(self.table, item):
+            return
+        try:
+            text = self.text(item)
+        except AtLimit:
+            self.is_full = True
+            return
+        if text:
+            self.sink.write(text)
+
+    def ending(self):
+        """The status and the line of how it ended, if by itself."""
+        if self.is_full:
+            return 5, f"limit: {self.table['name']}"
+        if self.sink.failed:
+            return 4, f"sink fault: {self.table['name']}"
+        return None
 
 
 def in_turn(inputs):
@@ -191,55 +236,38 @@ class Run:
             self.log = script.sinks.get(description["order-log"])
             if self.log is None:
                 raise Refused(4, "sink fault: order-log")
-        self.output = description["output"][0]
-        self.sink = script.sinks.get(self.output["path"])
-        if self.sink is None:
-            raise Refused(4, f"sink fault: {self.output['name']}")
+        self.outputs = []
+        for table in description["output"]:
+            sink = script.sinks.get(table["path"])
+            if sink is None:
+                raise Refused(4, f"sink fault: {table['name']}")
+            self.outputs.append(Output(table, known, sink))
 
-    def text(self, item):
+    def put(self, item):
         if item[0] == "message":
             item = (*item[:-1], through(self.description.get("intermediate", []), item[-1]))
-        if self.output["kind"] == "json":
-            return json_text(self.output, self.known, item)
-        return view_text(self.known, item)
+        for output in self.outputs:
+            output.take(item)
 
     def take_all(self):
         for number, item in in_turn(self.inputs):
-            if self.log and not self.log.write(number.to_bytes(2, "big")):
-                continue
-            text = self.text(item)
-            if text:
-                self.sink.write(text.encode())
+            if not self.log or self.log.write(number.to_bytes(2, "big")):
+                self.put(item)
 
-    def lines(self):
-        """The lines that are said of it, and its status."""
-        lines, status = [], 0
+    def endings(self):
+        """The statuses and lines of what ended by itself, in order."""
         for table, one in zip(self.description["input"], self.inputs):
             if one.failed:
-                lines.append(f"source fault: {table['name']}")
-                status = 3
-        for name, sink in (("order-log", self.log), (self.output["name"], self.sink)):
-            if sink and sink.failed:
-                lines.append(f"sink fault: {name}")
-                status = 4
-        if self.counted:
-            for name in COUNTS:
-                lines.append(f"{name} {min(sum(one.counts[name] for one in self.inputs), 2**64 - 1)}")
-            lines += ["opened 0", "released 0"]
-        return lines, status
+                yield 3, f"source fault: {table['name']}"
+        if self.log and self.log.failed:
+            yield 4, "sink fault: order-log"
+        yield from filter(None, (output.ending() for output in self.outputs))
 
-
-class FileRun(Run):
-    """A run of one file: that of a description with its input, the settings that are the default, and lines of JSON."""
-
-    counted = False
-
-    def __init__(self, script, place, out):
-        description = {
-            "input": [{"name": "in", "kind": "file", "path": place}],
-            "output": [{"name": "out", "kind": "json", "path": out}],
-        }
-        super().__init__(script, description, BUILTIN)
+    def lines(self):
+        """The lines that are said of it, and its status, which is the greatest."""
+        endings = list(self.endings())
+        counts = [f"{name} {min(sum(one.counts[name] for one in self.inputs), 2**64 - 1)}" for name in COUNTS]
+        return [line for _, line in endings] + counts + ["opened 0", "released 0"], max([0] + [code for code, _ in endings])
 
 
 def begun(script):
@@ -250,8 +278,6 @@ def begun(script):
         raise Refused(3, "source fault: conf")
     description = tomllib.loads(script.texts["conf"].decode())
     known = elements_of(script, description.get("elements", []))
-    if not is_built(description):
-        raise Refused(2, "not built")
     return Run(script, description, known)
 
 
@@ -268,7 +294,7 @@ def printed(text):
         lines, status = run.lines()
         for line in lines:
             if not script.say.write(f"{line}\n".encode()):
-                status = 4
+                status = max(status, 4)
                 break
     held = [f"held {name} {script.sinks[name].octets.hex() or '-'}\n" for name in script.names]
     return f"status {status}\nsaid {script.say.octets.hex() or '-'}\n" + "".join(held)

@@ -44,6 +44,7 @@ try data_alone 0 0
 try no_sets 0 0
 try variable_names 0 2 '{"@type":"ipfix.entry","iana:interfaceName":"abc"}'
 try repeated_element 0 1 '{"@type":"ipfix.entry","iana:octetDeltaCount":[5,6],"en9:id7":"0xabcd"}'
+try file_options 0 4
 try options 0 1 '{"@type":"ipfix.options","iana:observationDomainId":1,"iana:ingressInterface":7}'
 for description in descriptions/*.toml; do
     if [ "$("$program" check -c "$description")" != ok ]; then
@@ -87,8 +88,28 @@ message 0/0 domain 1 export 100 sequence 0 records 2
     iana:destinationIPv4Address="10.0.0.2"
 session 0/0 close
 END
-if [ "$("$program" collect -c descriptions/everything.toml)" != 'not built' ]; then
-    echo "everything: not told as not built"
+collect three_outputs 'messages=1024 records=1024 crowded=1' flows.json cat << END
+$source
+$source
+$source
+$source
+END
+collect three_outputs 'records=1024' copy.ipfix 'wc -c' <<< 520
+collect three_outputs 'records=1024' copy.ipfix '"$program" direct /dev/stdin back.json; grep -cxF "$source" back.json' <<< 10
+collect three_outputs 'records=1024' page.txt cat << 'END'
+session 0/0 open file
+message 0/0 domain 7 export 100 sequence 0 records 1
+  template 256 records 1
+    iana:sourceIPv4Address="10.0.0.1"
+session 0/0 close
+END
+collect copy 'messages=1 records=4' copy.ipfix 'wc -c' <<< 115
+collect copy 'messages=1 records=4' copy.ipfix '"$program" direct /dev/stdin back.json; cat back.json' << END
+$flow
+{"@type":"ipfix.options","iana:ingressInterface":7,"iana:interfaceName":"eth0"}
+END
+if [ "$("$program" collect -c descriptions/everything.toml)" != 'source fault: archive' ]; then
+    echo "everything: its first input isn't told as missing"
     failed=1
 fi
 [ "$failed" = 0 ] && echo "all examples as they are to be"
