@@ -28,7 +28,7 @@ around_text = record { inner = λ output table items x s. s; outer = λ output t
 pub around_file : IsAround (λ (output : OutputConf) (table : List Element) (items : List Item) (t : FileTexts). file.Stands output items t) (λ (t : FileTexts). t.text) File
 around_file = record { inner = λ output table items x s. s; outer = λ output table items x s. s; text = λ x. refl }
 
-module _ {T : Type 0} (stands : OutputConf → List Element → List Item → T → Type 0) (last : T → List ℕ) (around : T → OutputTexts) (is : IsAround stands last around) (message : Msg) (old new : T) where
+module _ {T : Type 0} {stands : OutputConf → List Element → List Item → T → Type 0} {last : T → List ℕ} {around : T → OutputTexts} (is : IsAround stands last around) (message : Msg) (old new : T) where
   pub puts_around : Puts stands last message old new → Puts Stands text_of message (around old) (around new)
   puts_around p = λ output table items s.
       (let q = p output table items (is.inner output table items old s) in record {

@@ -1,7 +1,7 @@
 -- What is left of a set, record by record.
 use Rattle.std.proofs.Common.{◌≡◌, ℕ, ◌+◌, ◌<◌, ◌≤◌, List, get_or, [], ◌∷◌, ◌++◌, length, map, take, drop, refl, ap, sym, subst, ◌∙◌, arith, length-append, length-drop}
 use Rattle.std.specs.List.{AllByRecursion}
-use Rattle.std.proofs.lemmas.List.{map-append, drop-append-le, take-append-le, append-nil, take_at, drop_at, take-append-drop, length-take-le, drop_more, take_more}
+use Rattle.std.proofs.lemmas.List.{map-append, drop-append-le, take-append-le, append-nil, take_at, drop_at, take-append-drop, length-take-le, take_more}
 use Rattle.wire_spec.specs.Content.{Definition}
 use Rattle.wire_spec.specs.declared.field.FieldSpec.{FieldSpec}
 use Rattle.wire_spec.specs.Record.{IsSomeRecord}
@@ -136,10 +136,6 @@ pub copy_gone : (works : List StageWork) (def : Definition) (octets : List ℕ) 
 copy_gone works def octets places p at start old longer now later left c last cut a =
     let first = ap (λ (o : List ℕ). records_behind works def (record_of def.fields o ∷ [])) (sym (copy_is octets p at start old longer now c)) ∙ last in
     subst (λ (o : List ℕ). AreLeft works def octets (places ++ p ∷ []) o left) (sym (cut ∙ front_is octets p at start old longer now c)) (left_gone works def octets places p old left a first)
-
--- the first of the places that are left
-pub first_place : (P : Place → Type 0) (places : List Place) (i : ℕ) (d : Place) → i < length places → AllByRecursion P (drop i places) → P (get_or places i d) × AllByRecursion P (drop (i + 1) places)
-first_place P places i d lt all = subst (AllByRecursion P) (drop_more places i d lt) all
 
 -- one place more is taken
 pub place_more : (works : List StageWork) (def : Definition) (octets : List ℕ) (places : List Place) (i : ℕ) (d : Place) (now : List ℕ) (left : List Place) → i < length places

@@ -8,13 +8,13 @@ ghost use Rattle.std.specs.List.{AllByRecursion, list_any};
 ghost use Rattle.wire_spec.specs.Record.{IsSomeRecord};
 ghost use Rattle.run_spec.specs.Records.{record_of};
 ghost use Rattle.pipeline_message.specs.declared.message.Place.{Place};
-ghost use Rattle.pipeline_message.specs.Items.{IsRecordAt, octets_at};
+ghost use Rattle.pipeline_message.specs.Items.{IsRecordAt};
 ghost use Rattle.stage_chain.specs.Behind.{changes, records_behind, AreLeft};
 ghost use Rattle.stage_chain.specs.Suits.{AreSuited};
 
 use crate::pass::{all_keep, last_passes_all};
 use crate::stage::{PreparedStage, Stage};
-use pipeline_message::Place;
+use pipeline_message::{Place, octets_at};
 use std::alloc::{AllocError, Global};
 use template_def::Definition;
 
@@ -23,16 +23,6 @@ use template_def::Definition;
 pub struct Left {
     places: Vec<Place>,
     octets: Vec<u8>,
-}
-
-/// The octets at a place of a message.
-#[inline(always)]
-pub fn octets_at(octets: &[u8], place: Place) -> &[u8]
-    requires { place.start + place.len ≤ length octets.now }
-    ensures { result.now ≡ octets_at octets.now place }
-{
-    let start = place.start as usize;
-    &octets[start..start + place.len as usize]
 }
 
 /// Whether some intermediate changes records.

@@ -15,5 +15,5 @@ mod pass;
 mod stage;
 
 pub use laws::a_message_goes_set_by_set;
-pub use left::{Left, first_change, octets_at, some_changes};
+pub use left::{Left, first_change, some_changes};
 pub use stage::{PreparedStage, Stage};

@@ -1,5 +1,5 @@
 // The lines of the records of one definition, at their places in octets.
-ghost use Rattle.std.specs.Prelude.{◌≡◌, ◌++◌, Bool, ℕ, List, IfOk, OnOk, length, map};
+ghost use Rattle.std.specs.Prelude.{◌≡◌, ◌++◌, Bool, List, IfOk, OnOk, length, map};
 ghost use Rattle.std.specs.List.{AllByRecursion, flat_map};
 ghost use Rattle.wire_spec.specs.declared.field.FieldSpec.{FieldSpec};
 ghost use Rattle.wire_spec.specs.Content as content;

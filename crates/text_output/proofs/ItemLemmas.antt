@@ -2,17 +2,15 @@
 use Rattle.std.proofs.Common.{◌≡◌, ◌≢◌, ℕ, Bool, true, false, cond, List, [], ◌∷◌, ◌++◌, Some, None, map, refl, ap, sym, ◌∙◌, append-nil}
 use Rattle.std.specs.Prelude.{filter}
 use Rattle.std.specs.List.{flat_map}
-use Rattle.col_base.specs.declared.base.SessionKey.{SessionKey}
 use Rattle.config_spec.specs.declared.conf.OutputConf.{OutputConf}
 use Rattle.config_spec.specs.declared.conf.OutputKind.{OutputKind}
 use Rattle.config_spec.specs.declared.conf.OutputKind.TheVariants as O
 use Rattle.config_spec.specs.declared.domains.DomainSet.{DomainSet}
 use Rattle.text_spec.specs.declared.element.Element.{Element}
 use Rattle.text_spec.specs.View.{message_line}
-use Rattle.run_spec.specs.Outcome.{DecodedSet}
 use Rattle.run_spec.specs.Work.{Item}
 use Rattle.run_spec.specs.Work.Item.{Note, Tick}
-use Rattle.run_spec.specs.Result.{json_text, set_text}
+use Rattle.run_spec.specs.Result.{json_text}
 use Rattle.run_spec.specs.View.{count_records, message_view, set_view, view_text}
 use Rattle.result_spec.specs.Result.{text_by, Exceeds}
 use Rattle.result_spec.specs.Through.{is_for}

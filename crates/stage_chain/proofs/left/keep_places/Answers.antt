@@ -4,7 +4,8 @@ use Rattle.pipeline_message.specs.Items.{IsRecordAt, record_at}
 use Rattle.run_spec.specs.Records.{record_of}
 use Rattle.stage_chain.specs.Behind.{AreLeft, records_behind}
 use Rattle.stage_chain.proofs.BehindLemmas.{none_behind}
-use Rattle.stage_chain.proofs.LeftLemmas.{left_none, left_kept, left_gone, first_place, place_more}
+use Rattle.pipeline_message.proofs.PlaceLemmas.{first_place}
+use Rattle.stage_chain.proofs.LeftLemmas.{left_none, left_kept, left_gone, place_more}
 use Rattle.stage_chain.proofs.left.keep_places.Goals as goal
 use Rattle.stage_chain.proofs.left.keep_places.Goals.{then-all_keep+in_ok-push, else-all_keep}
 

@@ -1,15 +1,7 @@
-use Rattle.std.proofs.Common.{List, sym, subst}
+use Rattle.std.proofs.Common.{sym, subst}
 use Rattle.std.specs.Result.{OnOk, OnErr, IfErr}
 use Rattle.std.proofs.lemmas.Result.{on_ok_weaker, on_err_weaker, IfErr-weaker}
-use Rattle.config_spec.specs.declared.conf.OutputConf.{OutputConf}
-use Rattle.text_spec.specs.declared.element.Element.{Element}
-use Rattle.run_spec.specs.Work.{Item}
-use Rattle.message_texts.specs.declared.texts.TextFault.{TextFault}
 use Rattle.message_texts.specs.Puts.{Puts, Keeps, MeetsLimit}
-use Rattle.text_output.specs.declared.output.TextOutput.{TextOutput}
-use Rattle.text_output.specs.Output.{Makes}
-use Rattle.file_texts.specs.declared.maker.FileTexts.{FileTexts}
-use Rattle.file_texts.specs.Texts as file
 use Rattle.output_texts.specs.declared.texts.OutputTexts.{OutputTexts}
 use Rattle.output_texts.specs.declared.texts.OutputTexts.TheVariants.{Text, File}
 use Rattle.output_texts.specs.Texts.{Stands, text_of}
@@ -19,24 +11,24 @@ use Rattle.output_texts.proofs.texts.OutputTextsMessageTexts.put.Goals as goal
 pub returns-in-Text-clause-ok : goal.returns-in-Text-clause-ok
 returns-in-Text-clause-ok c =
     subst (λ (old : OutputTexts). OnOk c.put.result (Puts Stands text_of c.args.message.now old (Text c.put.new.self))) (sym c.in-Text.is)
-    (on_ok_weaker c.put.result (puts_around (λ (o : OutputConf) (t : List Element) (i : List Item) (x : TextOutput). Makes o t x) (λ (x : TextOutput). x.text) Text around_text c.args.message.now c.in-Text.texts c.put.new.self) c.put.ensures.ok)
+    (on_ok_weaker c.put.result (puts_around around_text c.args.message.now c.in-Text.texts c.put.new.self) c.put.ensures.ok)
 
 pub returns-in-Text-clause-err : goal.returns-in-Text-clause-err
 returns-in-Text-clause-err c =
     subst (λ (old : OutputTexts). OnErr c.put.result (Keeps Stands old (Text c.put.new.self))) (sym c.in-Text.is)
-    (on_err_weaker c.put.result (keeps_around (λ (o : OutputConf) (t : List Element) (i : List Item) (x : TextOutput). Makes o t x) (λ (x : TextOutput). x.text) Text around_text c.args.message.now c.in-Text.texts c.put.new.self) c.put.ensures.err)
+    (on_err_weaker c.put.result (keeps_around around_text c.args.message.now c.in-Text.texts c.put.new.self) c.put.ensures.err)
 
 pub returns-in-File-clause-ok : goal.returns-in-File-clause-ok
 returns-in-File-clause-ok c =
     subst (λ (old : OutputTexts). OnOk c.put-in-File.result (Puts Stands text_of c.args.message.now old (File c.put-in-File.new.self))) (sym c.in-File.is)
-    (on_ok_weaker c.put-in-File.result (puts_around (λ (o : OutputConf) (t : List Element) (i : List Item) (x : FileTexts). file.Stands o i x) (λ (x : FileTexts). x.text) File around_file c.args.message.now c.in-File.texts c.put-in-File.new.self) c.put-in-File.ensures.ok)
+    (on_ok_weaker c.put-in-File.result (puts_around around_file c.args.message.now c.in-File.texts c.put-in-File.new.self) c.put-in-File.ensures.ok)
 
 pub returns-in-File-clause-err : goal.returns-in-File-clause-err
 returns-in-File-clause-err c =
     subst (λ (old : OutputTexts). OnErr c.put-in-File.result (Keeps Stands old (File c.put-in-File.new.self))) (sym c.in-File.is)
-    (on_err_weaker c.put-in-File.result (keeps_around (λ (o : OutputConf) (t : List Element) (i : List Item) (x : FileTexts). file.Stands o i x) (λ (x : FileTexts). x.text) File around_file c.args.message.now c.in-File.texts c.put-in-File.new.self) c.put-in-File.ensures.err)
+    (on_err_weaker c.put-in-File.result (keeps_around around_file c.args.message.now c.in-File.texts c.put-in-File.new.self) c.put-in-File.ensures.err)
 
 pub returns-in-File-clause-limit : goal.returns-in-File-clause-limit
 returns-in-File-clause-limit c =
     subst (λ (old : OutputTexts). IfErr c.put-in-File.result (λ f. MeetsLimit Stands f c.args.message.now old)) (sym c.in-File.is)
-    (IfErr-weaker c.put-in-File.result _ _ (limit_around (λ (o : OutputConf) (t : List Element) (i : List Item) (x : FileTexts). file.Stands o i x) (λ (x : FileTexts). x.text) File around_file c.args.message.now c.in-File.texts c.put-in-File.new.self) c.put-in-File.ensures.limit)
+    (IfErr-weaker c.put-in-File.result _ _ (limit_around around_file c.args.message.now c.in-File.texts c.put-in-File.new.self) c.put-in-File.ensures.limit)

@@ -1,7 +1,8 @@
 use Rattle.pipeline_message.specs.declared.message.Place.{Place}
 use Rattle.pipeline_message.specs.Items.{IsRecordAt}
 use Rattle.stage_chain.proofs.BehindLemmas.{none_behind}
-use Rattle.stage_chain.proofs.LeftLemmas.{left_none, first_place}
+use Rattle.pipeline_message.proofs.PlaceLemmas.{first_place}
+use Rattle.stage_chain.proofs.LeftLemmas.{left_none}
 use Rattle.stage_chain.proofs.left.Left.change_records.Goals as goal
 
 pub loop-place-init : goal.loop-place-init
