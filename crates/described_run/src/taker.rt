@@ -22,7 +22,10 @@ pub struct Ready<T, K> {
 }
 
 /// Room for so many outputs.
-pub fn room_for_outputs<T, K>(alloc: Global, count: usize) -> Result<Vec<Output<T, K>>, WantOfMemory>
+pub fn room_for_outputs<T, K>(
+    alloc: Global,
+    count: usize,
+) -> Result<Vec<Output<T, K>>, WantOfMemory>
     ensures empty { IfOk result (λ room. room.items ≡ []) }
     ensures room { IfOk result (λ room. count ≤ vec_capacity room) }
 {
