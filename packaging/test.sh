@@ -217,10 +217,10 @@ rotation_cuts_at_lines() {
 }
 
 # The rule as it is shipped, over a file that the program writes: it is cut without a hole, each line is there at most
-# once, and those that aren't came between copy and cut.
+# once, and those that aren't came between copy and cut. How many these are depends on the disk.
 logrotate_cuts_without_a_hole() {
     needs logrotate python3 program || return
-    local port sender lines
+    local port sender gaps
     port=$(free_port)
     mkdir -p state/before
     describe "$port" "$PWD/state/flows.json"
@@ -238,10 +238,13 @@ logrotate_cuts_without_a_hole() {
     stop "$run"
     wants "files that were rotated" "$(find state/before -type f | wc -l)" 2
     wants "octets that aren't text" "$(cat state/flows.json state/before/* | tr -d '\40-\176\n' | wc -c)" 0
-    lines=$(numbers state/before/* state/flows.json | sort -u | wc -l)
-    wants "lines that stand twice" "$(($(cat state/flows.json state/before/* | wc -l) - lines))" 0
-    [ "$lines" -ge 5900 ] || tell "$lines of 6000 lines are there"
-    echo "logrotate_cuts_without_a_hole: $((6000 - lines)) of 6000 lines were lost in two rotations, at 2,000 a second"
+    numbers state/before/* state/flows.json | sort -n > numbers.txt
+    wants "lines that stand twice" "$(uniq -d numbers.txt)" ""
+    wants "the first and the last" "$(sed -n '1p;$p' numbers.txt | tr '\n' ' ')" "100000 105999 "
+    # A gap for each rotation at most: logrotate flushes its copy to the disk before it cuts the file.
+    gaps=$(awk 'NR > 1 && $1 != before + 1 { gaps++ } { before = $1 } END { print gaps + 0 }' numbers.txt)
+    [ "$gaps" -le 2 ] || tell "$gaps gaps in two rotations"
+    echo "$name: $((6000 - $(wc -l < numbers.txt))) of 6000 lines were lost in two rotations, at 2,000 a second"
 }
 
 health_tells_troubles() {
@@ -307,8 +310,6 @@ package_installs() {
     root=$PWD/root
     dpkg-deb -x "$package" "$root"
     cd "$root/usr/share/doc/ipfixcol/examples" || { tell "no examples"; return; }
-    # Links are those of an installed package.
-    ln -sf "$root/usr/share/ipfixcol/elements/iana.toml" elements/iana.toml
     for description in descriptions/*.toml; do
         wants "$description" "$("$root/usr/bin/ipfixcol" check -c "$description")" ok
     done
@@ -324,8 +325,10 @@ package_installs() {
     wants "what units start" "$(cat missing.txt)" ""
     (cd "$root" && dpkg-deb --fsys-tarfile "$package" | tar -tv | awk '$2 != "root/root"' | head -n 3) > owners.txt
     wants "owners" "$(cat owners.txt)" ""
-    if command -v systemd-analyze > /dev/null; then
-        wants "verify" "$(systemd-analyze verify --man=no --root="$root" ipfixcol.service ipfixcol-health.timer ipfixcol-lines.socket 2>&1 | grep ipfixcol)" ""
+    if command -v systemd-analyze > /dev/null && [ -e /lib/systemd/system/sysinit.target ]; then
+        mkdir "$root/units"
+        for unit in "$root"/lib/systemd/system/*; do sed "s|=/usr/|=$root/usr/|" "$unit" > "$root/units/$(basename "$unit")"; done
+        wants "verify" "$(systemd-analyze verify --man=no "$root"/units/* 2>&1 | grep ipfixcol)" ""
     fi
     if command -v man > /dev/null && command -v mandoc > /dev/null; then
         mandoc -T ascii <(zcat "$root/usr/share/man/man5/ipfixcol.toml.5.gz") > /dev/null || tell "the packed page isn't one"

@@ -113,10 +113,18 @@ class Run:
 
     def start(self):
         self.process = subprocess.Popen([PROGRAM, "collect", "-c", self.path("run.toml")], stdout=subprocess.PIPE)
-        row = f":{self.port:04X} "
-        tables = [f"/proc/net/{self.kind}", f"/proc/net/{self.kind}6"]
-        while self.kind != FILE and self.process.poll() is None and not any(row in open(table, encoding="ascii").read() for table in tables):
+        while self.kind != FILE and self.process.poll() is None and not self.listens():
             time.sleep(0.01)
+
+    def listens(self):
+        """Whether a socket is there that hears the port: in state 10 over TCP, 7 over UDP."""
+        for table in (f"/proc/net/{self.kind}", f"/proc/net/{self.kind}6"):
+            with open(table, encoding="ascii") as rows_of_table:
+                for row in rows_of_table:
+                    _, local, _, state, *_ = row.split()
+                    if local.endswith(f":{self.port:04X}") and state in ("0A", "07"):
+                        return True
+        return False
 
     def path(self, name):
         return os.path.join(self.folder.name, name)
