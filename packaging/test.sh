@@ -324,6 +324,10 @@ package_installs() {
     wants "what units start" "$(cat missing.txt)" ""
     (cd "$root" && dpkg-deb --fsys-tarfile "$package" | tar -tv | awk '$2 != "root/root"' | head -n 3) > owners.txt
     wants "owners" "$(cat owners.txt)" ""
+    if command -v systemd-sysusers > /dev/null; then
+        systemd-sysusers --root="$root" ipfixcol.conf > sysusers.txt 2>&1 || tell "$(cat sysusers.txt)"
+        grep -q '^ipfixcol:.*:/var/lib/ipfixcol:' "$root/etc/passwd" || tell "no user in $(cat "$root/etc/passwd")"
+    fi
     if command -v systemd-analyze > /dev/null && [ -e /lib/systemd/system/sysinit.target ]; then
         mkdir "$root/units"
         for unit in "$root"/lib/systemd/system/*; do sed "s|=/usr/|=$root/usr/|" "$unit" > "$root/units/$(basename "$unit")"; done

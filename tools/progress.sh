@@ -28,7 +28,8 @@ fi
 files() {
     local fd place flags target
     for fd in "/proc/$1/fd/"*; do
-        [ -f "$fd" ] || continue
+        # What is printed isn't looked at.
+        [ -f "$fd" ] && [ "${fd##*/}" != 1 ] && [ "${fd##*/}" != 2 ] || continue
         target=$(readlink "$fd") || continue
         place= flags=
         while read -r name value; do

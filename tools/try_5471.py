@@ -4,7 +4,7 @@
 Each test is a function that is called by its section, as `of_3_2_1`. Messages are made here, and what is to come of them is
 worked out by hand from RFC 7011 and docs/FORMATS.md. Each is played as a file, over TCP and over UDP, where the test is of
 these. What isn't as it is to be is printed. docs/CONFORMANCE.md says where that is what RFC 5471 asks for, and where not. It
-takes about two minutes.
+takes some minutes.
 """
 import collections
 import json
