@@ -67,7 +67,7 @@ listens() {
     grep -q "$(printf ' 0100007F:%04X ' "$1")" /proc/net/udp
 }
 has_lines() {
-    [ "$(cat "$1" 2> /dev/null | wc -l)" -ge "$2" ]
+    [ -e "$1" ] && [ "$(wc -l < "$1")" -ge "$2" ]
 }
 # describe PORT PATH: a description of one UDP input and one output of JSON, as ./run.toml
 describe() {

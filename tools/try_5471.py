@@ -362,12 +362,13 @@ def of_3_4_6():
 
 
 def of_3_5_1():
-    """A million records take no memory. What a run does that may have little is tried by try_collect.py."""
-    many = message(a_set(256, bytes([10, 0, 0, 1]) * 16000))
+    """A million records take no memory, in messages of 65,535 octets. try_collect.py has a run that may have little."""
+    records = 16378
+    many = message(a_set(256, bytes([10, 0, 0, 1]) * records + bytes(3)))
     run = Run(FILE, message(T) + many * 63, out="/dev/null")
     _, status, used = os.wait4(run.process.pid, 0)
     printed = run.process.stdout.read().decode()
-    if status or f"records {63 * 16000}\n" not in printed or used.ru_maxrss > 20000:
+    if status or f"records {63 * records}\n" not in printed or used.ru_maxrss > 20000:
         tell(f"3.5.1: status {status}, {used.ru_maxrss} KiB, {printed}")
 
 
