@@ -116,6 +116,7 @@ pages_are_as_the_code() {
 conformance_names_what_is_there() {
     needs python3 || return
     "$here/tests/names.py" "$here/../docs/CONFORMANCE.md" > names.txt || tell "$(cat names.txt)"
+    "$here/tests/rows.py" "$here/../docs/CONFORMANCE.md" > rows.txt || tell "$(cat rows.txt)"
 }
 
 units_are_hardened() {
