@@ -8,7 +8,7 @@ usage() {
     echo "usage: progress.sh PID|PATH [SECONDS]" >&2
     exit 1
 }
-[ $# -ge 1 ] && [ $# -le 2 ] || usage
+if [ $# -lt 1 ] || [ $# -gt 2 ]; then usage; fi
 seconds=${2:-1}
 if [[ $1 =~ ^[0-9]+$ ]]; then
     pids=$1
@@ -28,9 +28,11 @@ fi
 files() {
     local fd place flags target
     for fd in "/proc/$1/fd/"*; do
+        # What is printed isn't looked at.
+        case ${fd##*/} in 1 | 2) continue ;; esac
         [ -f "$fd" ] || continue
         target=$(readlink "$fd") || continue
-        place= flags=
+        place='' flags=''
         while read -r name value; do
             case $name in
                 pos:) place=$value ;;
@@ -39,12 +41,19 @@ files() {
         done < "/proc/$1/fdinfo/${fd##*/}"
         [ -n "$place" ] || continue
         # The two lowest bits of the flags, which are octal: 0 where it is only read.
-        if [ $((0$flags & 3)) = 0 ]; then way=read; else way=write; fi
+        way='write'
+        [ $((0$flags & 3)) = 0 ] && way='read'
         echo "${fd##*/} $way $place $(stat -Lc %s "$fd") $target"
     done
 }
 span() {
-    if [ "$1" -ge 3600 ]; then printf '%dh%02dm' $(($1 / 3600)) $(($1 % 3600 / 60)); elif [ "$1" -ge 60 ]; then printf '%dm%02ds' $(($1 / 60)) $(($1 % 60)); else printf '%ds' "$1"; fi
+    if [ "$1" -ge 3600 ]; then
+        printf '%dh%02dm' $(($1 / 3600)) $(($1 % 3600 / 60))
+    elif [ "$1" -ge 60 ]; then
+        printf '%dm%02ds' $(($1 / 60)) $(($1 % 60))
+    else
+        printf '%ds' "$1"
+    fi
 }
 status=0
 for pid in $pids; do

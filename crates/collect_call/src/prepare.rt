@@ -1,12 +1,12 @@
 // What a run wants before anything is opened.
-ghost use Rattle.std.specs.Prelude.{◌≡◌, [], ℕ, List, Ok, IfOk};
+ghost use Rattle.std.specs.Prelude.{◌≡◌, ◌++◌, ◌∷◌, [], ℕ, List, Ok, IfOk, OnOk};
 ghost use Rattle.std.specs.List.{AllByRecursion};
 ghost use Rattle.config_spec.specs.Description.{description};
 ghost use Rattle.config_spec.specs.Form.{IsStage};
-ghost use Rattle.call_spec.specs.Pairs.{Each};
 ghost use Rattle.stage_chain.specs.Behind.{works_of};
+ghost use Rattle.output_texts.specs.declared.texts.OutputTexts.{OutputTexts};
 ghost use Rattle.output_texts.specs.Texts.{Stands};
-ghost use Rattle.collect_call.specs.Runs.{IsPrepared};
+ghost use Rattle.collect_call.specs.Runs.{AreMade, IsPrepared};
 
 use col_base::Text;
 use config_spec::{Conf, OutputConf, StageConf};
@@ -28,17 +28,31 @@ pub struct Prepared {
     pub texts: Vec<OutputTexts>,
 }
 
+/// Puts what makes the text of an output, by these elements, behind others.
+fn push_texts(
+    alloc: Global,
+    output: &OutputConf,
+    elements: &Arc<Elements>,
+    texts: &mut Vec<OutputTexts>,
+) -> Result<(), AllocError>
+    ensures { OnOk result ((t : OutputTexts) × (texts.new.items ≡ texts.old.items ++ t ∷ []) × Stands output.now elements.now.value [] t) }
+{
+    let made = OutputTexts::new(alloc, output, elements)?;
+    texts.push(made)?;
+    Ok(())
+}
+
 /// The makers of the texts of outputs, by these elements.
 fn texts_of(
     alloc: Global,
     outputs: &[OutputConf],
     elements: &Arc<Elements>,
 ) -> Result<Vec<OutputTexts>, AllocError>
-    ensures { IfOk result (λ texts. Each (λ _ output t. Stands output elements.now.value [] t) 0 outputs.now texts.items) }
+    ensures { IfOk result (λ texts. AreMade elements.now.value outputs.now texts.items) }
 {
     let mut texts = Vec::with_capacity(alloc, outputs.len())?;
     for output in outputs {
-        texts.push(OutputTexts::new(alloc, output, elements)?)?;
+        push_texts(alloc, output, elements, &mut texts)?;
     }
     Ok(texts)
 }
