@@ -19,7 +19,7 @@ pub use cause::a_status_has_its_cause;
 pub use end::{InputEnd, OutputFault};
 pub use example::{
     a_log_has_an_entry_for_each_arrival, an_input_ends_with_nothing_left,
-    an_output_ends_at_its_limit,
-    faults_have_their_lines_in_order, no_text_is_written_before_its_entry, summaries_have_seventeen_lines,
+    an_output_ends_at_its_limit, faults_have_their_lines_in_order,
+    no_text_is_written_before_its_entry, summaries_have_seventeen_lines,
     the_greatest_status_is_answered,
 };

@@ -78,12 +78,7 @@ fn unopened_code(unopened: Unopened) -> u8
 
 /// Says why a description isn't run, and answers the status: 3 for a source, 4 for a sink, and 6 where memory was wanted, for
 /// the line too. A line that can't be said changes none of them.
-pub fn report_unopened<S: Site>(
-    alloc: Global,
-    conf: &Conf,
-    unopened: Unopened,
-    site: &mut S,
-) -> u8
+pub fn report_unopened<S: Site>(alloc: Global, conf: &Conf, unopened: Unopened, site: &mut S) -> u8
     ensures { ReportsRefusal (described_parties conf.now) (opening.refusal_of unopened) (S.seen site.old) (S.seen site.new) result }
 {
     let said = say_unopened(alloc, conf, unopened, site);

@@ -62,9 +62,9 @@ module _ {T K : Type 0} (stands : OutputConf → List Element → List Item → 
     same = kept ∙ went.same;
     went = λ confs is.
         let whole : items_through confs (items ++ items_of (message ∷ [])) ≡ items_through confs items ++ items_of (left ∷ []) =
-            stages_append confs items (items_of (message ∷ [])) ∙ ap (λ l. items_through confs items ++ l) (sym (behind.items confs (is ∙ sym went.same))) in
+        stages_append confs items (items_of (message ∷ [])) ∙ ap (λ l. items_through confs items ++ l) (sym (behind.items confs (is ∙ sym went.same))) in
         let before : AllHave stands held total faults (items_through confs items) first.outputs.items old.outputs.items =
-            subst (λ (o : Option ℕ). MatchOption o (AllHave stands held total faults (items_through confs items) first.outputs.items old.outputs.items) (CutShort stands held total faults confs items first.outputs.items old.outputs.items)) was (went.went confs is) in
+        subst (λ (o : Option ℕ). MatchOption o (AllHave stands held total faults (items_through confs items) first.outputs.items old.outputs.items) (CutShort stands held total faults confs items first.outputs.items old.outputs.items)) was (went.went confs is) in
         subst (λ (o : Option ℕ). MatchOption o (AllHave stands held total faults (items_through confs (items ++ items_of (message ∷ []))) first.outputs.items new.outputs.items) (CutShort stands held total faults confs (items ++ items_of (message ∷ [])) first.outputs.items new.outputs.items)) (sym none)
         (subst (λ (l : List Item). AllHave stands held total faults l first.outputs.items new.outputs.items) (sym whole)
         (subst (λ (l : List (Output T K)). AllHave stands held total faults (items_through confs items ++ items_of (left ∷ [])) first.outputs.items l) (sym all)
@@ -77,7 +77,7 @@ module _ {T K : Type 0} (stands : OutputConf → List Element → List Item → 
     same = kept ∙ went.same;
     went = λ confs is.
         let before : AllHave stands held total faults (items_through confs items) first.outputs.items old.outputs.items =
-            subst (λ (o : Option ℕ). MatchOption o (AllHave stands held total faults (items_through confs items) first.outputs.items old.outputs.items) (CutShort stands held total faults confs items first.outputs.items old.outputs.items)) was (went.went confs is) in
+        subst (λ (o : Option ℕ). MatchOption o (AllHave stands held total faults (items_through confs items) first.outputs.items old.outputs.items) (CutShort stands held total faults confs items first.outputs.items old.outputs.items)) was (went.went confs is) in
         subst (λ (o : Option ℕ). MatchOption o (AllHave stands held total faults (items_through confs (items ++ items_of (message ∷ []))) first.outputs.items new.outputs.items) (CutShort stands held total faults confs (items ++ items_of (message ∷ [])) first.outputs.items new.outputs.items)) (sym wants)
         (record {
           is_stage = subst (λ n. k < n) (ap length (went.same ∙ sym is) ∙ length-map confs (λ (s : StageConf). s.work)) few;

@@ -174,8 +174,7 @@ module _ {K : Type 0} (held : K → Option (List ℕ)) (total : K → Option ℕ
     ended_more items more fault.Failed sink now_sink h = let b = text_begins output table items more in subst (λ t. TookFront held total faults t sink now_sink) (sym b.1) (front_more sink now_sink (text_at table output items) b.0 h)
     ended_more items more fault.NoMemory sink now_sink h = let b = text_begins output table items more in subst (λ t. TookFront held total faults t sink now_sink) (sym b.1) (front_more sink now_sink (text_at table output items) b.0 h)
     ended_more items more fault.Limit sink now_sink h =
-        let at = at_more output items more in
-        (
+        let at = at_more output items more in (
           subst (λ (l : List Item). Exceeds output.kind l) (sym at) (exceeds_more output.kind (items_at output items) (items_at output more) h.0),
           subst (λ (l : List Item). All (text_by table output.kind l) sink now_sink) (sym (ap (items_held output.kind) at ∙ held_more output.kind (items_at output items) (items_at output more) h.0)) h.1,
         )
