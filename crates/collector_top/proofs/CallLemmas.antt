@@ -1,5 +1,5 @@
 -- What a call promises, from what came and what was said.
-use Rattle.std.proofs.Common.{◌≡◌, ◌≢◌, inl, inr, ℕ, Bool, true, false, cond, max, List, [], ◌∷◌, ◌++◌, Option, Some, refl, ap, sym, subst, ◌∙◌, arith, append-nil}
+use Rattle.std.proofs.Common.{◌≡◌, ◌≢◌, inl, inr, ℕ, Bool, true, false, cond, max, List, [], ◌∷◌, ◌++◌, Option, None, Some, refl, ap, sym, subst, ◌∙◌, arith, append-nil}
 use Rattle.std.specs.Prelude.{Result, Ok, Err, ◌||◌, is_some}
 use Rattle.arrival_spec.specs.declared.event.Scripted.{Scripted}
 use Rattle.site_io.specs.declared.outside.OutsideFault.{OutsideFault}
@@ -56,8 +56,10 @@ output_codes (Some fault.NoMemory) = refl
 never_limited : (cut : Bool) (f : Option OutsideFault) → EndsOutput cut (output_of f) ⊥
 never_limited false None = λ e. e
 never_limited true None = tt
-never_limited cut (Some fault.Failed) = tt
-never_limited cut (Some fault.NoMemory) = tt
+never_limited false (Some fault.Failed) = tt
+never_limited false (Some fault.NoMemory) = tt
+never_limited true (Some fault.Failed) = tt
+never_limited true (Some fault.NoMemory) = tt
 
 held_by : (cut : Bool) (f : Option OutsideFault) (old now : Option (List ℕ)) (text : List ℕ) → HoldsAs (is_some f || cut) old now text → HoldsBy cut (output_of f) old now text []
 held_by cut None old now text h = h

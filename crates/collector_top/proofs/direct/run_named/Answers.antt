@@ -27,5 +27,5 @@ returns-in-Err-NoMemory-open_sink-clause-refused g c =
 pub returns-clause-ran : goal.returns-clause-ran
 returns-clause-ran g c =
     came_to_run g.S.Src.Source.left g.S.Src.Source.faults g.S.Out.Sink.held g.S.Out.Sink.faults c.args.conf.now.spec.place c.args.out.now (g.S.Site.seen c.args.site.now) (g.S.Site.seen c.open_source.new.self) (g.S.Site.seen c.open_sink.new.self)
-    (g.S.Site.seen c.back_sink.new.self) (g.S.Site.seen c.back_source-2.new.self) c.in-Ok.source c.file.result.1 c.in-Ok-open_sink.sink c.file.new.sink _ c.file.result.0 c.in-Ok.ensures.others c.in-Ok.ensures.opened
-    c.in-Ok-open_sink.ensures.others c.in-Ok-open_sink.ensures.opened c.file.ensures c.back_sink.ensures.others c.back_sink.ensures.back c.back_source-2.ensures.others c.back_source-2.ensures.back
+    (g.S.Site.seen c.back_sink.new.self) (g.S.Site.seen c.back_source-2.new.self) c.in-Ok.source c.file-source.result.1 c.in-Ok-open_sink.sink c.file-source.new.sink _ c.file-source.result.0 c.in-Ok.ensures.others c.in-Ok.ensures.opened
+    c.in-Ok-open_sink.ensures.others c.in-Ok-open_sink.ensures.opened c.file-source.ensures c.back_sink.ensures.others c.back_sink.ensures.back c.back_source-2.ensures.others c.back_source-2.ensures.back
