@@ -4,8 +4,13 @@ docs/DEFINITIONS.md, docs/OPERATING.md and docs/FORMATS.md.
 
     tools/runs.py FILE..
 
-prints of each script what `script_run FILE` prints of it, where its call is `collect -c conf` or `direct IN OUT`: the status,
-what was said, and what each sink holds. Descriptions are taken to have no fault of their own.
+prints of each script what `script_run FILE` prints of it, where its call is `collect -c conf`, `direct IN OUT` or
+`generate NUMBER COUNT`: the status, what was said, and what each sink holds. Descriptions are taken to have no fault of
+their own.
+
+    tools/runs.py generate NUMBER COUNT
+
+prints what `ipfixcol generate NUMBER COUNT` prints.
 """
 
 import sys
@@ -18,6 +23,7 @@ from file_texts import AtLimit, File
 from item_lines import records_behind
 from items import COUNTS, read_input
 from json_lines import BUILTIN, element_of, line_of
+from load_events import events_of
 from value_texts import text_of
 
 QUESTIONS = 1000
@@ -270,8 +276,35 @@ class Run:
         return [line for _, line in endings] + counts + ["opened 0", "released 0"], max([0] + [code for code, _ in endings])
 
 
+LOAD = """
+input = [{ name = "gen", kind = "tcp", listen = "gen" }]
+intermediate = [{ name = "half", kind = "filter", rule = [{ id = 4, test = "between", low = 0, high = 127, act = "drop" }] }]
+output = [{ name = "json", kind = "json", path = "json" }, { name = "ipfix", kind = "ipfix", path = "ipfix" }, { name = "view", kind = "view", path = "view" }]
+"""
+
+
+def load_script(number, count):
+    """A script whose one source gives generated load, and whose sinks are those of its description."""
+    script = Script("sink json\nsink ipfix\nsink view\n")
+    script.sources["gen"] = [f"{kind.lower()} {connection} {octets.hex()}".rstrip() for kind, connection, octets in events_of(number, count)]
+    return script
+
+
+class Load(Run):
+    """A run of generated load, of whose outputs the number of octets is said."""
+
+    def __init__(self, number, count):
+        super().__init__(load_script(number, count), tomllib.loads(LOAD), elements_of(None, []))
+
+    def lines(self):
+        lines, status = super().lines()
+        return lines + [f"octets {output.table['name']} {len(output.sink.octets)}" for output in self.outputs], status
+
+
 def begun(script):
     """The run of a script's call, which has begun."""
+    if script.words[:1] == ["generate"]:
+        return Load(*map(int, script.words[1:]))
     if script.words[:1] == ["direct"]:
         return FileRun(script, *script.words[1:])
     if "conf" not in script.texts:
@@ -300,7 +333,17 @@ def printed(text):
     return f"status {status}\nsaid {script.say.octets.hex() or '-'}\n" + "".join(held)
 
 
+def loaded(number, count):
+    """What is printed of generated load."""
+    run = Load(number, count)
+    run.take_all()
+    return "".join(f"{line}\n" for line in run.lines()[0])
+
+
 if __name__ == "__main__":
+    if sys.argv[1:2] == ["generate"]:
+        print(loaded(*map(int, sys.argv[2:])), end="")
+        sys.exit()
     for path in sys.argv[1:]:
         with open(path, encoding="utf-8") as file:
             print(printed(file.read()), end="")

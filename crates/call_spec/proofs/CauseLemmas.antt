@@ -18,9 +18,9 @@ use Rattle.call_spec.specs.Names.{times, has, marked}
 use Rattle.call_spec.specs.Counts.{TextKept, PlaceKept, SinkKept}
 use Rattle.call_spec.specs.Came.{Party, Parties, Refusal, InputCame, RunCame, Came}
 use Rattle.call_spec.specs.Came.Refusal.{NoText, BadDescription, BadElements, NoSource, NoLog, NoOutput, NoMemory}
-use Rattle.call_spec.specs.Came.Came.{BadWords, Fine, Refused, Ran}
+use Rattle.call_spec.specs.Came.Came.{BadWords, Fine, Refused, Ran, Loaded}
 use Rattle.call_spec.specs.Plan.{Plan, parties_of}
-use Rattle.call_spec.specs.Plan.Plan.{Nothing, OneFile, Described}
+use Rattle.call_spec.specs.Plan.Plan.{Nothing, OneFile, Described, Generated}
 use Rattle.call_spec.specs.Leaves.{Gave, arrivals_in, at_of, beside, log_and, sink_names, tried_places, failed_places, tried_sinks, failed_sinks}
 use Rattle.call_spec.specs.Ends.{has_failed, output_failed}
 use Rattle.call_spec.specs.Log.{HoldsLog}
@@ -131,6 +131,7 @@ module _ {S : Type 0} (left : S → Option (List Scripted)) (faults : S → ℕ)
     by_run : (plan : Plan) (run : RunCame) (said : Result (Unit {0}) OutsideFault) → Came3 plan (Ran run) said → Cause old new
     by_run Nothing run said c = absurd c.may
     by_run (OneFile place out) run said c = absurd c.may
+    by_run (Generated number count) run said c = absurd c.may
     by_run (Described conf rows) run said c =
         let parties = parties_of (Described conf rows) in
         let inputs = worst (map (λ (x : InputCame). end_code x.end) run.inputs) in
@@ -155,6 +156,7 @@ module _ {S : Type 0} (left : S → Option (List Scripted)) (faults : S → ℕ)
     by_came plan Fine said c = absurd c.may
     by_came plan (Refused r n m) said c = by_refusal plan r n m said c
     by_came plan (Ran run) said c = by_run plan run said c
+    by_came plan (Loaded run lengths) said c = absurd c.may
 
   pub cause_of_3 : (file : List ℕ) (old new : Seen) → Collects left faults file old new 3 → Cause old new
   cause_of_3 file old new k = by_came file old new k.0 k.1 k.2 k.3
@@ -258,6 +260,7 @@ module _ {S : Type 0} (left : S → Option (List Scripted)) (faults : S → ℕ)
   run_4 : (plan : Plan) (run : RunCame) (said : Result (Unit {0}) OutsideFault) → Came4 plan (Ran run) said → SinkCause old new
   run_4 Nothing run said c = absurd c.may
   run_4 (OneFile place out) run said c = absurd c.may
+  run_4 (Generated number count) run said c = absurd c.may
   run_4 (Described conf rows) run said c = elim (one_4 (run_code run) (said_code said) (sym c.answers)) [ inl h ↦ by_run h | inr h ↦ by_said said c.says h ]
     where
       parties : Parties
@@ -295,6 +298,7 @@ module _ {S : Type 0} (left : S → Option (List Scripted)) (faults : S → ℕ)
   came_4 plan Fine said c = absurd c.may
   came_4 plan (Refused r n m) said c = refusal_4 plan r n m said c
   came_4 plan (Ran run) said c = run_4 plan run said c
+  came_4 plan (Loaded run lengths) said c = absurd c.may
 
 pub cause_of_4 : {S : Type 0} (left : S → Option (List Scripted)) (faults : S → ℕ) (file : List ℕ) (old new : Seen) → Collects left faults file old new 4 → SinkCause old new
 cause_of_4 left faults file old new k = came_4 left faults file old new k.0 k.1 k.2 k.3

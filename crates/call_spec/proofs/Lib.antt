@@ -1,5 +1,6 @@
 mod CauseLemmas
 mod KnownTexts
+mod CompleteLemmas
 mod LogLemmas
 pub mod PairLemmas
 pub mod NameLemmas

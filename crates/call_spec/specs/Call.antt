@@ -8,9 +8,9 @@ use Rattle.words_spec.specs.Commands.Command.{Direct, Check, Collect, Generate}
 use Rattle.words_spec.specs.Commands.Command.{Refused as NoCommand}
 use Rattle.call_spec.specs.Came.{Refusal, Came}
 use Rattle.call_spec.specs.Came.Refusal.{NoText, BadDescription, BadElements, NoSource, NoLog, NoOutput, NoMemory}
-use Rattle.call_spec.specs.Came.Came.{BadWords, Fine, Refused, Ran}
+use Rattle.call_spec.specs.Came.Came.{BadWords, Fine, Refused, Ran, Loaded}
 use Rattle.call_spec.specs.Plan.{Plan}
-use Rattle.call_spec.specs.Plan.Plan.{Nothing, OneFile, Described}
+use Rattle.call_spec.specs.Plan.Plan.{Nothing, OneFile, Described, Generated}
 use Rattle.call_spec.specs.Texts.{Describes, HasTable, Judges}
 use Rattle.call_spec.specs.Leaves.{Comes}
 use Rattle.call_spec.specs.Lines.{Said, lines_of}
@@ -28,6 +28,7 @@ IsOfDirect (Refused NoLog n m) = ⊤
 IsOfDirect (Refused (NoOutput j) n m) = ⊤
 IsOfDirect (Refused NoMemory n m) = ⊤
 IsOfDirect (Ran run) = ⊤
+IsOfDirect (Loaded run lengths) = ⊥
 
 -- what may come of `check`: what its texts come to
 abbrev pub IsOfCheck : (List ℕ → TextSeen) → List ℕ → Came → Type 0
@@ -35,12 +36,14 @@ IsOfCheck text file BadWords = ⊥
 IsOfCheck text file Fine = Judges text file (Ok tt)
 IsOfCheck text file (Refused refusal n m) = Judges text file (Err refusal)
 IsOfCheck text file (Ran run) = ⊥
+IsOfCheck text file (Loaded run lengths) = ⊥
 
 -- what FILE says is run: its description, with the elements of the files that it names
 abbrev pub IsPlanOf : (List ℕ → TextSeen) → List ℕ → Plan → Type 0
 IsPlanOf text file Nothing = ⊥
 IsPlanOf text file (OneFile place out) = ⊥
 IsPlanOf text file (Described conf rows) = Describes text file conf × HasTable text conf.elements rows
+IsPlanOf text file (Generated number count) = ⊥
 
 -- a text's refusal comes before anything is planned
 abbrev pub IsOfTexts : (List ℕ → TextSeen) → List ℕ → Plan → Refusal → Type 0
@@ -58,14 +61,28 @@ IsOfCollect text file plan (Refused NoLog n m) = IsPlanOf text file plan
 IsOfCollect text file plan (Refused (NoOutput j) n m) = IsPlanOf text file plan
 IsOfCollect text file plan (Refused NoMemory n m) = (plan ≡ Nothing) ⊎ IsPlanOf text file plan
 IsOfCollect text file plan (Ran run) = IsPlanOf text file plan
+IsOfCollect text file plan (Loaded run lengths) = ⊥
 
--- what may come of a command, and what it runs: words of none are refused, and so are those of `generate`, which isn't built
--- yet
+-- what may come of `generate`: its load runs, unless memory is wanted before that
+abbrev pub IsOfGenerate : ℕ → ℕ → Plan → Came → Type 0
+IsOfGenerate number count plan BadWords = ⊥
+IsOfGenerate number count plan Fine = ⊥
+IsOfGenerate number count plan (Refused (NoText name) n m) = ⊥
+IsOfGenerate number count plan (Refused (BadDescription fault) n m) = ⊥
+IsOfGenerate number count plan (Refused (BadElements name fault) n m) = ⊥
+IsOfGenerate number count plan (Refused (NoSource i) n m) = ⊥
+IsOfGenerate number count plan (Refused NoLog n m) = ⊥
+IsOfGenerate number count plan (Refused (NoOutput j) n m) = ⊥
+IsOfGenerate number count plan (Refused NoMemory n m) = plan ≡ Nothing
+IsOfGenerate number count plan (Ran run) = ⊥
+IsOfGenerate number count plan (Loaded run lengths) = plan ≡ Generated number count
+
+-- what may come of a command, and what it runs: words of none are refused
 abbrev pub MayCome : Command → (List ℕ → TextSeen) → Plan → Came → Type 0
 MayCome (Direct place out) text plan came = (plan ≡ OneFile place out) × IsOfDirect came
 MayCome (Check file) text plan came = (plan ≡ Nothing) × IsOfCheck text file came
 MayCome (Collect file) text plan came = IsOfCollect text file plan came
-MayCome (Generate number count) text plan came = (plan ≡ Nothing) × (came ≡ BadWords)
+MayCome (Generate number count) text plan came = IsOfGenerate number count plan came
 MayCome NoCommand text plan came = (plan ≡ Nothing) × (came ≡ BadWords)
 
 module _ {S : Type 0} (left : S → Option (List Scripted)) (faults : S → ℕ) where

@@ -57,3 +57,5 @@ pub data Came : Type 0 where
   -- the call was refused before its run, after so many places and sinks were tried
   Refused : Refusal → (places sinks : ℕ) → Came
   Ran : RunCame → Came
+  -- generated load ran, into sinks that keep the number of octets alone: what each output's sink tells
+  Loaded : RunCame → (lengths : List ℕ) → Came

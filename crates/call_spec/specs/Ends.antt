@@ -2,7 +2,7 @@
 use Rattle.std.specs.Prelude.{ℕ, ◌≡◌, ◌⊎◌, ◌<◌, ◌≤◌, ◌^◌, Bool, true, false, List, [], ◌∷◌, ◌++◌, ⊤, Option, Some, None, length, take}
 use Rattle.arrival_spec.specs.declared.event.Scripted.{Scripted}
 use Rattle.arrival_spec.specs.Events.{events_of}
-use Rattle.site_io.specs.Writes.{Grows}
+use Rattle.site_io.specs.Writes.{Grows, standing}
 use Rattle.site_io.specs.declared.outside.OutsideFault.{OutsideFault}
 use Rattle.site_io.specs.declared.outside.OutsideFault.TheVariants as fault
 use Rattle.call_spec.specs.declared.end.InputEnd.{InputEnd}
@@ -88,17 +88,28 @@ Holds None now text = ⊤
 Holds (Some old) now text = now ≡ Some text
 
 -- the whole text, or a front of it where it was cut off
-abbrev pub HoldsAs : Bool → Option (List ℕ) → Option (List ℕ) → List ℕ → Type 0
-HoldsAs false old now text = Holds old now text
-HoldsAs true old now text = (n : ℕ) × Holds old now (take n text)
+abbrev pub ShowsAs : (List ℕ → Type 0) → Bool → List ℕ → Type 0
+ShowsAs Shows false text = Shows text
+ShowsAs Shows true text = (n : ℕ) × Shows (take n text)
 
 -- What a sink shows of an output that ended so, and that was cut off or not by what stands before it: its whole text; or, at
 -- its limit, that of what it can hold; or else a front.
+abbrev pub ShowsBy : (List ℕ → Type 0) → Bool → Option OutputFault → List ℕ → List ℕ → Type 0
+ShowsBy Shows cut None text within = ShowsAs Shows cut text
+ShowsBy Shows cut (Some output.Failed) text within = ShowsAs Shows true text
+ShowsBy Shows cut (Some output.Limit) text within = Shows within
+ShowsBy Shows cut (Some output.NoMemory) text within = ShowsAs Shows true text
+
+-- so a sink name shows it by what it holds
+abbrev pub HoldsAs : Bool → Option (List ℕ) → Option (List ℕ) → List ℕ → Type 0
+HoldsAs cut old now text = ShowsAs (λ t. Holds old now t) cut text
+
 abbrev pub HoldsBy : Bool → Option OutputFault → Option (List ℕ) → Option (List ℕ) → List ℕ → List ℕ → Type 0
-HoldsBy cut None old now text within = HoldsAs cut old now text
-HoldsBy cut (Some output.Failed) old now text within = HoldsAs true old now text
-HoldsBy cut (Some output.Limit) old now text within = Holds old now within
-HoldsBy cut (Some output.NoMemory) old now text within = HoldsAs true old now text
+HoldsBy cut f old now text within = ShowsBy (λ t. Holds old now t) cut f text within
+
+-- and a sink that keeps the number of its octets alone, by that
+abbrev pub CountsBy : Bool → Option OutputFault → ℕ → List ℕ → List ℕ → Type 0
+CountsBy cut f count text within = ShowsBy (λ t. count ≡ standing (length t)) cut f text within
 
 -- It ends at its limit only where what comes to it exceeds that, and always then, unless it was cut off before.
 abbrev pub EndsOutput : Bool → Option OutputFault → Type 0 → Type 0

@@ -11,19 +11,22 @@ use Rattle.run_spec.specs.Merge.{IsPartial, list_at, times as times_in}
 use Rattle.count_spec.specs.Run.{ArePrinted}
 use Rattle.result_spec.specs.Result.{inputs_of, arrivals_from, ComeTo, ExceedsFor, held_for, text_for}
 use Rattle.run_spec.specs.Work.{Item}
+use Rattle.text_spec.specs.Builtin.{builtin_rows}
 use Rattle.text_spec.specs.declared.element.Element.{Element}
+use Rattle.load_spec.specs.Load.{load_events}
 use Rattle.call_spec.specs.Pairs.{Each}
 use Rattle.call_spec.specs.Names.{times, has, marked}
 use Rattle.call_spec.specs.Counts.{TextKept, PlaceKept, SinkKept}
 use Rattle.call_spec.specs.Files.{FileText}
-use Rattle.call_spec.specs.Ends.{TakenFrom, EndsReading, EndsInput, EndsOutput, HoldsBy, source_failed, wants_memory, has_failed, output_failed}
+use Rattle.call_spec.specs.Ends.{TakenFrom, EndsReading, EndsInput, EndsOutput, CountsBy, HoldsBy, source_failed, wants_memory, has_failed, output_failed}
 use Rattle.call_spec.specs.declared.end.OutputFault.{OutputFault}
 use Rattle.call_spec.specs.Log.{HoldsLog}
 use Rattle.call_spec.specs.Came.{Party, Parties, Refusal, InputCame, RunCame, Came}
 use Rattle.call_spec.specs.Came.Refusal.{NoText, BadDescription, BadElements, NoSource, NoLog, NoOutput, NoMemory}
-use Rattle.call_spec.specs.Came.Came.{BadWords, Fine, Refused, Ran}
-use Rattle.call_spec.specs.Plan.{Plan, parties_of}
-use Rattle.call_spec.specs.Plan.Plan.{Nothing, OneFile, Described}
+use Rattle.call_spec.specs.Came.Came.{BadWords, Fine, Refused, Ran, Loaded}
+use Rattle.call_spec.specs.Load.{load_conf}
+use Rattle.call_spec.specs.Plan.{Plan, described_parties, parties_of}
+use Rattle.call_spec.specs.Plan.Plan.{Nothing, OneFile, Described, Generated}
 
 -- ---- which names were tried, and of which something failed
 
@@ -57,6 +60,7 @@ failed_texts BadWords = []
 failed_texts Fine = []
 failed_texts (Refused refusal n m) = failed_text refusal
 failed_texts (Ran run) = []
+failed_texts (Loaded run lengths) = []
 
 abbrev pub refused_place : Parties → Refusal → List (List ℕ)
 refused_place parties (NoText name) = []
@@ -81,24 +85,28 @@ tried_places parties BadWords = []
 tried_places parties Fine = []
 tried_places parties (Refused refusal n m) = take n (at_of parties.inputs)
 tried_places parties (Ran run) = at_of parties.inputs
+tried_places parties (Loaded run lengths) = []
 
 abbrev pub failed_places : Parties → Came → List (List ℕ)
 failed_places parties BadWords = []
 failed_places parties Fine = []
 failed_places parties (Refused refusal n m) = refused_place parties refusal
 failed_places parties (Ran run) = marked (at_of parties.inputs) (map (λ (c : InputCame). c.failed) run.inputs)
+failed_places parties (Loaded run lengths) = []
 
 abbrev pub tried_sinks : Parties → Came → List (List ℕ)
 tried_sinks parties BadWords = []
 tried_sinks parties Fine = []
 tried_sinks parties (Refused refusal n m) = take m (sink_names parties)
 tried_sinks parties (Ran run) = sink_names parties
+tried_sinks parties (Loaded run lengths) = []
 
 abbrev pub failed_sinks : Parties → Came → List (List ℕ)
 failed_sinks parties BadWords = []
 failed_sinks parties Fine = []
 failed_sinks parties (Refused refusal n m) = refused_sink parties refusal
 failed_sinks parties (Ran run) = marked (sink_names parties) (beside parties.log (has_failed run.log) (map output_failed run.outputs))
+failed_sinks parties (Loaded run lengths) = []
 
 -- So many places and sinks were tried at a refusal: none before all texts are read, and no sink before all sources are
 -- out. The one that was refused is the last that was tried.
@@ -150,6 +158,7 @@ abbrev pub Ends : Plan → ℕ → Option (List Scripted) → Option (List Scrip
 Ends Nothing k left now_left came = ⊥
 Ends (OneFile place out) k left now_left came = EndsReading left now_left came.given came.end × (came.failed ≡ source_failed came.end)
 Ends (Described conf rows) k left now_left came = EndsInput (limit_of conf k) left now_left came.given came.end came.failed
+Ends (Generated number count) k left now_left came = ⊥
 
 -- an input whose arrivals need not all have been worked off: it wanted memory, or the log ended
 abbrev pub is_short : RunCame → ℕ → Bool
@@ -164,6 +173,7 @@ abbrev pub IsOrdered : Plan → RunCame → Type 0
 IsOrdered Nothing run = ⊥
 IsOrdered (OneFile place out) run = ⊤
 IsOrdered (Described conf rows) run = IsOrder run (arrivals_in conf run)
+IsOrdered (Generated number count) run = ⊥
 
 -- the lines of one file are cut off where its input wanted memory; the outputs of a description where an intermediate did
 abbrev pub input_wants : RunCame → Bool
@@ -190,18 +200,57 @@ abbrev pub OutputHolds : Plan → RunCame → ℕ → Option OutputFault → Opt
 OutputHolds Nothing run j f old now = ⊥
 OutputHolds (OneFile place out) run j f old now = HoldsFile run f old now
 OutputHolds (Described conf rows) run j f old now = HoldsResult conf rows run j f old now
+OutputHolds (Generated number count) run j f old now = ⊥
 
 -- what the log shows
 abbrev pub LogHolds : Plan → RunCame → (List ℕ → SinkSeen) → (List ℕ → SinkSeen) → Type 0
 LogHolds Nothing run old new = ⊥
 LogHolds (OneFile place out) run old new = run.log ≡ None
 LogHolds (Described conf rows) run old new = MatchOption conf.order_log (run.log ≡ None) (λ path. HoldsLog run.log (arrivals_in conf run) (old path).held (new path).held run.order)
+LogHolds (Generated number count) run old new = ⊥
 
 -- what was counted, unless memory was wanted to count it
+abbrev pub CountsOf : Conf → RunCame → Type 0
+CountsOf conf run = input_wants run ≡ false → ArePrinted (inputs_of conf) (given_of run) run.counts
+
 abbrev pub IsCounted : Plan → RunCame → Type 0
 IsCounted Nothing run = ⊥
 IsCounted (OneFile place out) run = ⊤
-IsCounted (Described conf rows) run = input_wants run ≡ false → ArePrinted (inputs_of conf) (given_of run) run.counts
+IsCounted (Described conf rows) run = CountsOf conf run
+IsCounted (Generated number count) run = ⊥
+
+-- ---- a run of generated load
+
+-- it never fails, and gives all of its events, unless memory is wanted
+pub record GaveLoad (number count k : ℕ) (party : Party) (came : InputCame) : Type 0 where
+  pub rest : List Scripted
+  pub whole : load_events number count ≡ came.given ++ rest
+  pub ends : EndsInput (limit_of load_conf k) (Some (load_events number count)) (Some rest) came.given came.end came.failed
+  pub sound : came.failed ≡ false
+
+-- how many octets the text of output j has, of what comes to it of the arrivals in their order; its sink never fails
+pub record HasLength (run : RunCame) (j : ℕ) (f : Option OutputFault) (length : ℕ) : Type 0 where
+  pub items : List Item
+  pub come : ComeTo load_conf (given_of run) run.order j items
+  pub ends : EndsOutput (stage_wants run) f (ExceedsFor (slice_get load_conf.outputs j) items)
+  pub counts : CountsBy (stage_wants run) f length (text_for builtin_rows (slice_get load_conf.outputs j) items) (text_for builtin_rows (slice_get load_conf.outputs j) (held_for (slice_get load_conf.outputs j) items))
+  pub sound : output_failed f ≡ false
+
+-- the load gave its events, their arrivals were worked off in an order, and each output's sink took so many octets of them
+pub record LoadLeaves (number count : ℕ) (run : RunCame) (lengths : List ℕ) : Type 0 where
+  pub gave : Each (GaveLoad number count) 0 (described_parties load_conf).inputs run.inputs
+  pub ordered : IsOrder run (arrivals_in load_conf run)
+  pub unlogged : run.log ≡ None
+  pub stages : length run.stages ≡ length (described_parties load_conf).stages
+  pub outputs : length run.outputs ≡ length load_conf.outputs
+  pub lengths_are : Each (HasLength run) 0 run.outputs lengths
+  pub counted : CountsOf load_conf run
+
+abbrev pub IsLoaded : Plan → RunCame → List ℕ → Type 0
+IsLoaded Nothing run lengths = ⊥
+IsLoaded (OneFile place out) run lengths = ⊥
+IsLoaded (Described conf rows) run lengths = ⊥
+IsLoaded (Generated number count) run lengths = LoadLeaves number count run lengths
 
 module _ {S : Type 0} (left : S → Option (List Scripted)) (faults : S → ℕ) where
   -- a source that had not failed yet had given these events
@@ -231,6 +280,7 @@ module _ {S : Type 0} (left : S → Option (List Scripted)) (faults : S → ℕ)
   Leaves plan (Refused refusal n m) old new =
       IsRefusal (parties_of plan) refusal n m × ((p : List ℕ) → KeepsLeft (old.place p) (new.place p)) × ((p : List ℕ) → KeepsHeld (has p (emptied_sinks (parties_of plan) refusal m)) (old.sink p) (new.sink p))
   Leaves plan (Ran run) old new = RunLeaves plan run old new
+  Leaves plan (Loaded run lengths) old new = IsLoaded plan run lengths
 
   -- what came of a call, but for what it says
   pub record Comes (plan : Plan) (came : Came) (old new : Seen) : Type 0 where

@@ -5,6 +5,7 @@ pub mod Files
 pub mod Ends
 pub mod Log
 pub mod Came
+pub mod Load
 pub mod Plan
 pub mod Summary
 pub mod Lines
@@ -12,4 +13,5 @@ pub mod Status
 pub mod Texts
 pub mod Leaves
 pub mod Call
+pub mod Causes
 pub mod Examples

@@ -1,5 +1,5 @@
 -- The lines that a call says.
-use Rattle.std.specs.Prelude.{ℕ, ◌≡◌, List, [], ◌∷◌, ◌++◌, Option, Some, None, Result, Ok, Err, Bool, true, false, codes, map, take, drop, flat_map}
+use Rattle.std.specs.Prelude.{ℕ, ◌≡◌, List, [], ◌∷◌, ◌++◌, Option, Some, None, Result, Ok, Err, Bool, true, false, codes, decimal, map, take, drop, flat_map}
 use Rattle.config_spec.specs.First.{fault_text}
 use Rattle.element_spec.specs.Faults as elements
 use Rattle.site_io.specs.declared.outside.OutsideFault.{OutsideFault}
@@ -12,11 +12,11 @@ use Rattle.call_spec.specs.declared.end.OutputFault.{OutputFault}
 use Rattle.call_spec.specs.declared.end.OutputFault.TheVariants as output
 use Rattle.call_spec.specs.Came.{Party, Parties, Refusal, InputCame, RunCame, Came}
 use Rattle.call_spec.specs.Came.Refusal.{NoText, BadDescription, BadElements, NoSource, NoLog, NoOutput, NoMemory}
-use Rattle.call_spec.specs.Came.Came.{BadWords, Fine, Refused, Ran}
+use Rattle.call_spec.specs.Came.Came.{BadWords, Fine, Refused, Ran, Loaded}
 use Rattle.call_spec.specs.Counts.{MovesBy}
 use Rattle.call_spec.specs.Ends.{GrowsByFront}
 use Rattle.call_spec.specs.Plan.{Plan, parties_of}
-use Rattle.call_spec.specs.Plan.Plan.{Nothing, OneFile, Described}
+use Rattle.call_spec.specs.Plan.Plan.{Nothing, OneFile, Described, Generated}
 use Rattle.call_spec.specs.Summary.{summary_text}
 
 unfoldable pub usage_text : List ℕ
@@ -51,6 +51,12 @@ colon = codes ": "
 
 unfoldable pub log_name : List ℕ
 log_name = codes "order-log"
+
+unfoldable pub octets_start : List ℕ
+octets_start = codes "octets "
+
+unfoldable pub space : List ℕ
+space = codes " "
 
 unfoldable pub line_end : List ℕ
 line_end = codes "\n"
@@ -96,6 +102,10 @@ abbrev pub stage_line : List ℕ → Bool → List ℕ
 stage_line name false = []
 stage_line name true = named_line memory_start name
 
+-- the line of how many octets an output has
+abbrev pub octets_line : List ℕ → ℕ → List ℕ
+octets_line name count = (((octets_start ++ name) ++ space) ++ decimal count) ++ line_end
+
 abbrev pub names_of : List Party → List (List ℕ)
 names_of parties = map (λ (p : Party). p.name) parties
 
@@ -121,13 +131,19 @@ abbrev pub summary_of : Plan → RunCame → List ℕ
 summary_of Nothing run = []
 summary_of (OneFile place out) run = []
 summary_of (Described conf rows) run = summary_text run.counts
+summary_of (Generated number count) run = summary_text run.counts
 
--- the lines of what came of a call: of a run those of its faults, and then its summary
+-- of a run the lines of its faults, and then its summary
+abbrev pub run_lines : Plan → RunCame → List ℕ
+run_lines plan run = fault_lines (parties_of plan) run ++ summary_of plan run
+
+-- the lines of what came of a call: behind those of generated load, of how many octets each output has
 abbrev pub lines_of : Plan → Came → List ℕ
 lines_of plan BadWords = usage_text
 lines_of plan Fine = fine_text
 lines_of plan (Refused refusal n m) = refusal_line (parties_of plan) refusal
-lines_of plan (Ran run) = fault_lines (parties_of plan) run ++ summary_of plan run
+lines_of plan (Ran run) = run_lines plan run
+lines_of plan (Loaded run lengths) = run_lines plan run ++ lines_by octets_line (names_of (parties_of plan).outputs) lengths
 
 -- a text was said whole, or a front of it where saying failed, which is counted, or memory was wanted
 abbrev pub Said : Result (Unit {0}) OutsideFault → SaidSeen → SaidSeen → List ℕ → Type 0

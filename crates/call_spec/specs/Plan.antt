@@ -1,4 +1,4 @@
--- What a command runs: nothing, one file to lines, or a description with its elements.
+-- What a command runs: nothing, one file to lines, a description with its elements, or generated load.
 use Rattle.std.specs.Prelude.{ℕ, List, [], ◌∷◌, Option, Some, None, codes, map}
 use Rattle.config_spec.specs.declared.conf.Conf.{Conf}
 use Rattle.config_spec.specs.declared.conf.InputConf.{InputConf}
@@ -6,12 +6,15 @@ use Rattle.config_spec.specs.declared.conf.StageConf.{StageConf}
 use Rattle.config_spec.specs.declared.conf.OutputConf.{OutputConf}
 use Rattle.text_spec.specs.declared.element.Element.{Element}
 use Rattle.call_spec.specs.Came.{Party, Parties}
+use Rattle.call_spec.specs.Load.{load_conf}
 
 pub data Plan : Type 0 where
   Nothing : Plan
   -- the place of the file, and the sink name of its lines
   OneFile : (place out : List ℕ) → Plan
   Described : Conf → List Element → Plan
+  -- so many messages of a number, through the description of `generate`
+  Generated : (number count : ℕ) → Plan
 
 -- the names of the input and of the output of one file
 unfoldable pub in_name : List ℕ
@@ -47,3 +50,4 @@ abbrev pub parties_of : Plan → Parties
 parties_of Nothing = no_parties
 parties_of (OneFile place out) = direct_parties place out
 parties_of (Described conf rows) = described_parties conf
+parties_of (Generated number count) = described_parties load_conf

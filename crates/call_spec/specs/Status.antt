@@ -8,7 +8,7 @@ use Rattle.call_spec.specs.declared.end.OutputFault.{OutputFault}
 use Rattle.call_spec.specs.declared.end.OutputFault.TheVariants as output
 use Rattle.call_spec.specs.Came.{Refusal, InputCame, RunCame, Came}
 use Rattle.call_spec.specs.Came.Refusal.{NoText, BadDescription, BadElements, NoSource, NoLog, NoOutput, NoMemory}
-use Rattle.call_spec.specs.Came.Came.{BadWords, Fine, Refused, Ran}
+use Rattle.call_spec.specs.Came.Came.{BadWords, Fine, Refused, Ran, Loaded}
 
 abbrev pub end_code : InputEnd → ℕ
 end_code end.End = 0
@@ -62,3 +62,4 @@ status_of BadWords said = 1
 status_of Fine said = said_code said
 status_of (Refused refusal n m) said = max (refusal_code refusal) (wanted_code said)
 status_of (Ran run) said = max (run_code run) (said_code said)
+status_of (Loaded run lengths) said = max (run_code run) (said_code said)

@@ -15,7 +15,9 @@ mod cause;
 mod end;
 mod example;
 
-pub use cause::a_status_has_its_cause;
+pub use cause::{
+    a_run_without_a_cause_is_done, a_status_has_its_cause, generated_load_has_no_other_fault,
+};
 pub use end::{InputEnd, OutputFault};
 pub use example::{
     a_log_has_an_entry_for_each_arrival, an_input_ends_with_nothing_left,

@@ -10,7 +10,7 @@ use Rattle.site_io.specs.Seen.{Seen, TextSeen}
 use Rattle.call_spec.specs.Came.{Came, RunCame}
 use Rattle.call_spec.specs.Came.{Refusal as Reason}
 use Rattle.call_spec.specs.Came.Refusal.{NoText, BadDescription, BadElements, NoSource, NoLog, NoOutput, NoMemory}
-use Rattle.call_spec.specs.Came.Came.{BadWords, Fine, Refused, Ran}
+use Rattle.call_spec.specs.Came.Came.{BadWords, Fine, Refused, Ran, Loaded}
 use Rattle.call_spec.specs.Call.{Collects, CallsOf, IsOfCollect, MayCome}
 use Rattle.call_spec.specs.Leaves.{Comes}
 use Rattle.call_spec.specs.Plan.{Plan, no_parties, described_parties}
@@ -80,6 +80,7 @@ module _ {S : Type 0} (left : S → Option (List Scripted)) (faults : S → ℕ)
   may_collect text file conf rows (Refused (NoOutput j) n k) d h m = (d, h)
   may_collect text file conf rows (Refused NoMemory n k) d h m = inr (d, h)
   may_collect text file conf rows (Ran run) d h m = (d, h)
+  may_collect text file conf rows (Loaded run lengths) d h m = m
 
   of_read : (file : List ℕ) (conf : Conf) (rows : List Element) (a c : Seen) (status : ℕ) → Describes a.text file conf → HasTable a.text conf.elements rows → CallsOf left faults (RunsOf conf rows) a c status → Collects left faults file a c status
   of_read file conf rows a c status d h (plan, came, said, k) = (

@@ -7,7 +7,7 @@ use Rattle.site_io.specs.Seen.{TextSeen}
 use Rattle.call_spec.specs.Pairs.{Each}
 use Rattle.call_spec.specs.Came.{Came}
 use Rattle.call_spec.specs.Came.Refusal.{NoText, BadDescription, BadElements, NoSource, NoLog, NoOutput, NoMemory}
-use Rattle.call_spec.specs.Came.Came.{BadWords, Fine, Refused, Ran}
+use Rattle.call_spec.specs.Came.Came.{BadWords, Fine, Refused, Ran, Loaded}
 use Rattle.call_spec.specs.Leaves.{sink_names}
 use Rattle.call_spec.specs.Plan.{Plan, described_parties}
 use Rattle.call_spec.specs.Plan.Plan.{Described}
@@ -28,6 +28,7 @@ IsOfRun (Refused NoLog n m) = ⊤
 IsOfRun (Refused (NoOutput j) n m) = ⊤
 IsOfRun (Refused NoMemory n m) = ⊤
 IsOfRun (Ran run) = ⊤
+IsOfRun (Loaded run lengths) = ⊥
 
 abbrev pub RunsOf : Conf → List Element → (List ℕ → TextSeen) → Plan → Came → Type 0
 RunsOf conf rows text plan came = (plan ≡ Described conf rows) × IsOfRun came

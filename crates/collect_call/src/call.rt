@@ -6,7 +6,7 @@ ghost use Rattle.words_spec.specs.Commands.Command.{Collect};
 ghost use Rattle.call_spec.specs.Call.{Calls, CallsOf};
 ghost use Rattle.collect_call.specs.Runs.{IsPrepared, RunsOf};
 
-use crate::prepare::{Prepared, prepare};
+use crate::prepare::{Prepared, make_ready};
 use crate::report::report_unopened;
 use config_spec::Conf;
 use described_run::run_described;
@@ -47,7 +47,7 @@ fn run_read<R: Wait + Clock, S: Site>(alloc: Global, rt: &R, read: Description, 
     ensures { CallsOf S.Src.left S.Src.faults (RunsOf read.conf read.elements) (S.seen site.old) (S.seen site.new) result }
 {
     let Description { conf, elements } = read;
-    match prepare(alloc, &conf, elements) {
+    match make_ready(alloc, &conf, elements) {
         Ok(prepared) => run_prepared(alloc, rt, &conf, prepared, site),
         Err(_) => report_unopened(alloc, &conf, Unopened::Memory, site),
     }

@@ -10,3 +10,4 @@ mod prepare;
 mod report;
 
 pub use call::collect_run;
+pub use prepare::{Prepared, make_ready};

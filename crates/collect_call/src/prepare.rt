@@ -69,7 +69,7 @@ fn stages_of(alloc: Global, stages: &[StageConf]) -> Result<Stages, AllocError>
 }
 
 /// Takes the memory that the run of a description wants before anything is opened.
-pub fn prepare(alloc: Global, conf: &Conf, elements: Elements) -> Result<Prepared, AllocError>
+pub fn make_ready(alloc: Global, conf: &Conf, elements: Elements) -> Result<Prepared, AllocError>
     requires described { (octets : List ℕ) × (description octets ≡ Ok conf.now) }
     ensures ok { IfOk result (IsPrepared conf.now elements) }
 {

@@ -10,6 +10,7 @@ use crate::check::check_run;
 use crate::direct::direct_run;
 use crate::words::{Command, command_of};
 use collect_call::collect_run;
+use generate_call::generate_run;
 use run_lines::{Piece, say_piece};
 use site_io::Site;
 use std::alloc::Global;
@@ -25,8 +26,8 @@ fn refuse<S: Site>(site: &mut S) -> u8
     1
 }
 
-/// Does what the words ask for, and answers the program's status: 1 exactly where the words are refused, as those of
-/// `generate` are until it is built. Only `collect` may wait.
+/// Does what the words ask for, and answers the program's status: 1 exactly where the words are refused. Only `collect` and
+/// `generate` may wait.
 pub fn collect_main<R: Wait + Clock, S: Site>(
     alloc: Global,
     rt: &R,
@@ -39,6 +40,7 @@ pub fn collect_main<R: Wait + Clock, S: Site>(
         Command::Direct { place, out } => direct_run(alloc, place, out, site),
         Command::Check { file } => check_run(alloc, file, site),
         Command::Collect { file } => collect_run(alloc, rt, file, site),
-        Command::Generate { .. } | Command::Refused => refuse(site),
+        Command::Generate { number, count } => generate_run(alloc, rt, number, count, site),
+        Command::Refused => refuse(site),
     }
 }

@@ -4,7 +4,7 @@ ghost use Rattle.words_spec.specs.Names.{is_name, is_option, option_rest, if_nam
 ghost use Rattle.words_spec.specs.Numbers.{has_needless_zero, number_between};
 ghost use Rattle.words_spec.specs.Commands.{direct_word, check_word, collect_word, generate_word, direct_of, of_file, stream_number, stream_count, generate_of, command_of};
 ghost use Rattle.words_spec.specs.Commands.Command.{Check, Collect};
-ghost use Rattle.collector_top.specs.Words.{told};
+ghost use Rattle.collector_top.specs.Words.{HasCount, told};
 
 use setting_texts::number_text;
 
@@ -91,6 +91,7 @@ fn has_needless_zero(word: &str) -> bool
 /// words.
 fn number_between(least: u64, most: u64, word: &str) -> Option<u64>
     ensures value { result ≡ number_between least most word.now }
+    ensures least { IfSome result (λ n. least ≤ n) }
     ensures most { IfSome result (λ n. n ≤ most) }
 {
     if has_needless_zero(word) {
@@ -111,7 +112,8 @@ fn stream_number(word: &str) -> Option<u64>
 
 /// COUNT, from 1 to 1,000,000.
 fn stream_count(word: &str) -> Option<u32>
-    ensures { result ≡ stream_count word.now }
+    ensures value { result ≡ stream_count word.now }
+    ensures within { IfSome result (λ n. (1 ≤ n) × (n ≤ 1000000)) }
 {
     match number_between(1, MOST_MESSAGES, word) {
         Some(count) => Some(count as u32),
@@ -121,7 +123,8 @@ fn stream_count(word: &str) -> Option<u32>
 
 /// What two names ask for.
 fn direct(words: &[String]) -> Command<'_>
-    ensures { told result ≡ direct_of (map string_bytes words.now) }
+    ensures command { told result ≡ direct_of (map string_bytes words.now) }
+    ensures within { HasCount result }
 {
     let [place, out] = words else {
         return Command::Refused;
@@ -137,7 +140,8 @@ fn direct(words: &[String]) -> Command<'_>
 
 /// What two numbers ask for.
 fn generate(words: &[String]) -> Command<'_>
-    ensures { told result ≡ generate_of (map string_bytes words.now) }
+    ensures command { told result ≡ generate_of (map string_bytes words.now) }
+    ensures within { HasCount result }
 {
     let [number, count] = words else {
         return Command::Refused;
@@ -178,7 +182,8 @@ fn is_generate(word: &str) -> bool
 
 /// What the name of a description asks for, behind `check`.
 fn check(words: &[String]) -> Command<'_>
-    ensures { told result ≡ of_file Check (file_name (map string_bytes words.now)) }
+    ensures command { told result ≡ of_file Check (file_name (map string_bytes words.now)) }
+    ensures within { HasCount result }
 {
     match file_name(words) {
         Some(file) => Command::Check { file },
@@ -188,7 +193,8 @@ fn check(words: &[String]) -> Command<'_>
 
 /// And behind `collect`.
 fn collect(words: &[String]) -> Command<'_>
-    ensures { told result ≡ of_file Collect (file_name (map string_bytes words.now)) }
+    ensures command { told result ≡ of_file Collect (file_name (map string_bytes words.now)) }
+    ensures within { HasCount result }
 {
     match file_name(words) {
         Some(file) => Command::Collect { file },
@@ -198,7 +204,8 @@ fn collect(words: &[String]) -> Command<'_>
 
 /// What words ask for.
 pub fn command_of(words: &[String]) -> Command<'_>
-    ensures { told result ≡ command_of (map string_bytes words.now) }
+    ensures command { told result ≡ command_of (map string_bytes words.now) }
+    ensures within { HasCount result }
 {
     let Some((first, words)) = words.split_first() else {
         return Command::Refused;

@@ -12,4 +12,7 @@ mod handed;
 mod run;
 mod taker;
 
+pub use ended::{note_all, room_for};
+pub use handed::hand_on;
 pub use run::run_described;
+pub use taker::{Ready, end, room_for_outputs};

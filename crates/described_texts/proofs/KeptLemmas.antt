@@ -8,7 +8,7 @@ use Rattle.call_spec.specs.Names.{has}
 use Rattle.call_spec.specs.Counts.{TextKept, PlaceKept, SinkKept}
 use Rattle.call_spec.specs.Came.{Came}
 use Rattle.call_spec.specs.Came.{Refusal as Reason}
-use Rattle.call_spec.specs.Came.Came.{BadWords, Fine, Refused, Ran}
+use Rattle.call_spec.specs.Came.Came.{BadWords, Fine, Refused, Ran, Loaded}
 use Rattle.call_spec.specs.Leaves.{failed_text, refused_place, refused_sink, emptied_sinks, IsRefusal, KeepsHeld, Leaves, Comes, Gave}
 use Rattle.call_spec.specs.Lines.{Said, lines_of}
 use Rattle.call_spec.specs.Status.{status_of}
@@ -114,6 +114,7 @@ module _ {S : Type 0} (left : S → Option (List Scripted)) (faults : S → ℕ)
         holds = l.holds;
         counted = l.counted;
       }
+      leaves_still (Loaded run lengths) l = l
 
   -- a call of which this came before its lines were said
   pub calls_said : (allowed : (List ℕ → TextSeen) → Plan → Came → Type 0) (plan : Plan) (came : Came) (a b c : Seen) (said : Result (Unit {0}) OutsideFault) (status : ℕ) → allowed a.text plan came → Comes left faults plan came a b → b.say ≡ a.say

@@ -14,11 +14,10 @@ use Rattle.run_spec.specs.Work.{Item}
 use Rattle.result_spec.specs.Result.{Exceeds, text_by}
 use Rattle.result_spec.specs.Through.{items_through}
 use Rattle.result_spec.proofs.MoreLemmas.{stages_append}
-use Rattle.site_io.specs.Seen.{SinkSeen}
 use Rattle.call_spec.specs.declared.end.OutputFault.{OutputFault}
 use Rattle.call_spec.specs.declared.end.OutputFault.TheVariants as fault
 use Rattle.call_spec.specs.Counts.{MovesBy}
-use Rattle.call_spec.specs.Ends.{EndsOutput, HoldsBy, has_failed, output_failed}
+use Rattle.call_spec.specs.Ends.{EndsOutput, ShowsBy, has_failed, output_failed}
 use Rattle.call_spec.specs.Leaves.{at_of}
 use Rattle.call_spec.specs.Pairs.{Each}
 use Rattle.call_spec.proofs.PairLemmas.{same_length}
@@ -37,7 +36,7 @@ use Rattle.logged_outputs.proofs.OutputLemmas.{stays, took_none}
 use Rattle.run_came.specs.Ends.{wanting}
 use Rattle.run_came.specs.Ran.{IsNew, IsNewLog, output_sinks}
 use Rattle.run_came.proofs.InputLemmas.{counted_failed}
-use Rattle.run_came.proofs.SinkLemmas.{Told, grows_none, holds_at}
+use Rattle.run_came.proofs.SinkLemmas.{grows_none}
 
 -- ---- no items have no text, and exceed nothing
 
@@ -139,84 +138,80 @@ module _ {T K : Type 0} (stands : OutputConf → List Element → List Item → 
     have = m.have;
   }
 
-  -- ---- what an output shows by its name
+  -- ---- what an output shows of its text, by what its sink took of that
 
-  -- why it ended, what its name shows of its text, and whether its sink failed
-  pub record OutputCame (rows : List Element) (cut : Bool) (items : List Item) (b e : List ℕ → SinkSeen) (o : OutputConf) (sink : K) (f : Option OutputFault) : Type 0 where
-    pub ends : EndsOutput cut f (ExceedsAt o items)
-    pub holds : HoldsBy cut f (b o.path).held (e o.path).held (text_at rows o items) (text_within rows o items)
-    pub failed : nat_lt 0 (faults sink) ≡ output_failed f
+  module _ (Shows : OutputConf → K → List ℕ → Type 0) where
+    -- why it ended, what is shown of its text, and whether its sink failed
+    pub record OutputCame (rows : List Element) (cut : Bool) (items : List Item) (o : OutputConf) (sink : K) (f : Option OutputFault) : Type 0 where
+      pub ends : EndsOutput cut f (ExceedsAt o items)
+      pub holds : ShowsBy (Shows o sink) cut f (text_at rows o items) (text_within rows o items)
+      pub failed : nat_lt 0 (faults sink) ≡ output_failed f
 
-  module _ (rows : List Element) (b e : List ℕ → SinkSeen) (o : OutputConf) (first now : Output T K) (told : Told (b o.path).held (e o.path).held (held first.sink) (held now.sink)) (fresh : faults first.sink ≡ 0) where
-    abbrev Shows : List ℕ → Type 0
-    Shows text = Rattle.call_spec.specs.Ends.Holds (b o.path).held (e o.path).held text
+    module _ (rows : List Element) (o : OutputConf) (first now : Output T K) (shows : (text : List ℕ) → TookAll held total faults text first.sink now.sink → Shows o now.sink text) (fresh : faults first.sink ≡ 0) where
+      failed_as : (failed : Bool) → MovesBy failed (faults first.sink) (faults now.sink) → nat_lt 0 (faults now.sink) ≡ failed
+      failed_as failed m = counted_failed failed (faults first.sink) (faults now.sink) fresh m
 
-    shows : (text : List ℕ) → TookAll held total faults text first.sink now.sink → Shows text
-    shows text t = holds_at (b o.path).held (e o.path).held (held first.sink) (held now.sink) text told t.0
+      ended_came : (cut : Bool) (f : OutputFault) (items : List Item) → HoldsPart held total faults stands o rows items first now f → OutputCame rows cut items o now.sink (Some f)
+      ended_came cut fault.Failed items p = record { ends = tt; holds = (p.holds.0, shows (take p.holds.0 (text_at rows o items)) p.holds.2); failed = failed_as true p.counts }
+      ended_came cut fault.Limit items p = record { ends = p.holds.0; holds = shows (text_within rows o items) p.holds.1; failed = failed_as false p.counts }
+      ended_came cut fault.NoMemory items p = record { ends = tt; holds = (p.holds.0, shows (take p.holds.0 (text_at rows o items)) p.holds.2); failed = failed_as false p.counts }
 
-    failed_as : (failed : Bool) → MovesBy failed (faults first.sink) (faults now.sink) → nat_lt 0 (faults now.sink) ≡ failed
-    failed_as failed m = counted_failed failed (faults first.sink) (faults now.sink) fresh m
+      whole_came : (items : List Item) → HoldsAll held total faults stands o rows items first now → OutputCame rows false items o now.sink None
+      whole_came items h = record { ends = h.enough; holds = shows (text_at rows o items) h.holds; failed = failed_as false h.counts }
 
-    ended_came : (cut : Bool) (f : OutputFault) (items : List Item) → HoldsPart held total faults stands o rows items first now f → OutputCame rows cut items b e o now.sink (Some f)
-    ended_came cut fault.Failed items p = record { ends = tt; holds = (p.holds.0, shows (take p.holds.0 (text_at rows o items)) p.holds.2); failed = failed_as true p.counts }
-    ended_came cut fault.Limit items p = record { ends = p.holds.0; holds = shows (text_within rows o items) p.holds.1; failed = failed_as false p.counts }
-    ended_came cut fault.NoMemory items p = record { ends = tt; holds = (p.holds.0, shows (take p.holds.0 (text_at rows o items)) p.holds.2); failed = failed_as false p.counts }
+      -- one that was cut off shows what it would had it wanted memory itself
+      cut_came : (items more : List Item) → HoldsAll held total faults stands o rows items first now → OutputCame rows true (items ++ more) o now.sink None
+      cut_came items more h =
+          let text = text_at rows o items in
+          let wanting_memory : Output T K = record { texts = now.texts; sink = now.sink; fault = Some fault.NoMemory } in
+          let part : HoldsPart held total faults stands o rows items first wanting_memory fault.NoMemory = record {
+            holds = (length text, omega arith, subst (λ t. TookAll held total faults t first.sink now.sink) (sym (take_all (length text) text (omega arith))) h.holds);
+            counts = h.counts;
+          } in
+          let p = stays held total faults o rows stands items more first wanting_memory refl part in
+          record { ends = tt; holds = (p.holds.0, shows (take p.holds.0 (text_at rows o (items ++ more))) p.holds.2); failed = failed_as false p.counts }
 
-    whole_came : (items : List Item) → HoldsAll held total faults stands o rows items first now → OutputCame rows false items b e o now.sink None
-    whole_came items h = record { ends = h.enough; holds = shows (text_at rows o items) h.holds; failed = failed_as false h.counts }
+      pub output_came : (cut : Bool) (items front rest : List Item) → items ≡ front ++ rest → (cut ≡ false → rest ≡ []) → OutputHas held total faults stands o rows front first now → OutputCame rows cut items o now.sink now.fault
+      output_came cut items front rest is none h = subst (λ (l : List Item). OutputCame rows cut l o now.sink now.fault) (sym is) (by_fault now.fault refl)
+        where
+          has : (f : Option OutputFault) → now.fault ≡ f → MatchOption f (HoldsAll held total faults stands o rows front first now) (HoldsPart held total faults stands o rows front first now)
+          has f is = subst (λ (x : Option OutputFault). MatchOption x (HoldsAll held total faults stands o rows front first now) (HoldsPart held total faults stands o rows front first now)) is h
 
-    -- one that was cut off shows what it would had it wanted memory itself
-    cut_came : (items more : List Item) → HoldsAll held total faults stands o rows items first now → OutputCame rows true (items ++ more) b e o now.sink None
-    cut_came items more h =
-        let text = text_at rows o items in
-        let wanting_memory : Output T K = record { texts = now.texts; sink = now.sink; fault = Some fault.NoMemory } in
-        let part : HoldsPart held total faults stands o rows items first wanting_memory fault.NoMemory = record {
-          holds = (length text, omega arith, subst (λ t. TookAll held total faults t first.sink now.sink) (sym (take_all (length text) text (omega arith))) h.holds);
-          counts = h.counts;
-        } in
-        let p = stays held total faults o rows stands items more first wanting_memory refl part in
-        record { ends = tt; holds = (p.holds.0, shows (take p.holds.0 (text_at rows o (items ++ more))) p.holds.2); failed = failed_as false p.counts }
+          by_cut : (c : Bool) → (c ≡ false → rest ≡ []) → HoldsAll held total faults stands o rows front first now → OutputCame rows c (front ++ rest) o now.sink None
+          by_cut true none all = cut_came front rest all
+          by_cut false none all = subst (λ (l : List Item). OutputCame rows false l o now.sink None) (sym (ap (λ r. front ++ r) (none refl) ∙ append-nil front)) (whole_came front all)
 
-    pub output_came : (cut : Bool) (items front rest : List Item) → items ≡ front ++ rest → (cut ≡ false → rest ≡ []) → OutputHas held total faults stands o rows front first now → OutputCame rows cut items b e o now.sink now.fault
-    output_came cut items front rest is none h = subst (λ (l : List Item). OutputCame rows cut l b e o now.sink now.fault) (sym is) (by_fault now.fault refl)
-      where
-        has : (f : Option OutputFault) → now.fault ≡ f → MatchOption f (HoldsAll held total faults stands o rows front first now) (HoldsPart held total faults stands o rows front first now)
-        has f is = subst (λ (x : Option OutputFault). MatchOption x (HoldsAll held total faults stands o rows front first now) (HoldsPart held total faults stands o rows front first now)) is h
+          by_fault : (f : Option OutputFault) → now.fault ≡ f → OutputCame rows cut (front ++ rest) o now.sink now.fault
+          by_fault None is = subst (λ (x : Option OutputFault). OutputCame rows cut (front ++ rest) o now.sink x) (sym is) (by_cut cut none (has None is))
+          by_fault (Some f) is =
+              let later = stays held total faults o rows stands front rest first now (ap is_some is) h in
+              subst (λ (x : Option OutputFault). OutputCame rows cut (front ++ rest) o now.sink x) (sym is)
+              (ended_came cut f (front ++ rest) (subst (λ (x : Option OutputFault). MatchOption x (HoldsAll held total faults stands o rows (front ++ rest) first now) (HoldsPart held total faults stands o rows (front ++ rest) first now)) is later))
 
-        by_cut : (c : Bool) → (c ≡ false → rest ≡ []) → HoldsAll held total faults stands o rows front first now → OutputCame rows c (front ++ rest) b e o now.sink None
-        by_cut true none all = cut_came front rest all
-        by_cut false none all = subst (λ (l : List Item). OutputCame rows false l b e o now.sink None) (sym (ap (λ r. front ++ r) (none refl) ∙ append-nil front)) (whole_came front all)
+    -- of all outputs
+    module _ (rows : List Element) (cut : Bool) (items front rest : List Item) (is : items ≡ front ++ rest) (none : cut ≡ false → rest ≡ []) (Began Shown : ℕ → List ℕ → K → Type 0)
+        (shows_of : (k m : ℕ) (o : OutputConf) (first sink : K) → Began k o.path first → Shown m o.path sink → (text : List ℕ) → TookAll held total faults text first sink → Shows o sink text)
+        (fresh_of : (k : ℕ) (name : List ℕ) (first : K) → Began k name first → faults first ≡ 0) where
+      pub all_outputs : (n : ℕ) (outputs : List OutputConf) (firsts nows : List (Output T K)) → Each Began n (at_of (map output_party outputs)) (output_sinks firsts) → Each Shown n (at_of (map output_party outputs)) (output_sinks nows)
+          → AllByRecursion (λ (x : Output T K). x.fault ≡ None) firsts → Each (λ _ o t. stands o rows [] t) n outputs (map (λ (x : Output T K). x.texts) firsts) → Each (λ _ first now. HasFrom stands held total faults front first now) n firsts nows
+          → Each (λ _ o (now : Output T K). OutputCame rows cut items o now.sink now.fault) n outputs nows
+      all_outputs n [] [] [] g s goes t h = tt
+      all_outputs n [] [] (now ∷ nows) g s goes t h = absurd h
+      all_outputs n [] (first ∷ firsts) nows g s goes t h = absurd g
+      all_outputs n (o ∷ outputs) [] nows g s goes t h = absurd g
+      all_outputs n (o ∷ outputs) (first ∷ firsts) [] g s goes t h = absurd h
+      all_outputs n (o ∷ outputs) (first ∷ firsts) (now ∷ nows) g s goes t h = (
+        output_came rows o first now (shows_of n n o first.sink now.sink g.0 s.0) (fresh_of n o.path first.sink g.0) cut items front rest is none (h.0 o rows t.0 goes.0),
+        all_outputs (suc n) outputs firsts nows g.1 s.1 goes.1 t.1 h.1,
+      )
 
-        by_fault : (f : Option OutputFault) → now.fault ≡ f → OutputCame rows cut (front ++ rest) b e o now.sink now.fault
-        by_fault None is = subst (λ (x : Option OutputFault). OutputCame rows cut (front ++ rest) b e o now.sink x) (sym is) (by_cut cut none (has None is))
-        by_fault (Some f) is =
-            let later = stays held total faults o rows stands front rest first now (ap is_some is) h in
-            subst (λ (x : Option OutputFault). OutputCame rows cut (front ++ rest) b e o now.sink x) (sym is)
-            (ended_came cut f (front ++ rest) (subst (λ (x : Option OutputFault). MatchOption x (HoldsAll held total faults stands o rows (front ++ rest) first now) (HoldsPart held total faults stands o rows (front ++ rest) first now)) is later))
-
-  -- of all outputs
-  module _ (rows : List Element) (cut : Bool) (items front rest : List Item) (is : items ≡ front ++ rest) (none : cut ≡ false → rest ≡ []) (b e : List ℕ → SinkSeen) (Began Shown : ℕ → List ℕ → K → Type 0)
-      (told_of : (k m : ℕ) (name : List ℕ) (first sink : K) → Began k name first → Shown m name sink → Told (b name).held (e name).held (held first) (held sink)) (fresh_of : (k : ℕ) (name : List ℕ) (first : K) → Began k name first → faults first ≡ 0) where
-    pub all_outputs : (n : ℕ) (outputs : List OutputConf) (firsts nows : List (Output T K)) → Each Began n (at_of (map output_party outputs)) (output_sinks firsts) → Each Shown n (at_of (map output_party outputs)) (output_sinks nows)
-        → AllByRecursion (λ (x : Output T K). x.fault ≡ None) firsts → Each (λ _ o t. stands o rows [] t) n outputs (map (λ (x : Output T K). x.texts) firsts) → Each (λ _ first now. HasFrom stands held total faults front first now) n firsts nows
-        → Each (λ _ o (now : Output T K). OutputCame rows cut items b e o now.sink now.fault) n outputs nows
-    all_outputs n [] [] [] g s goes t h = tt
-    all_outputs n [] [] (now ∷ nows) g s goes t h = absurd h
-    all_outputs n [] (first ∷ firsts) nows g s goes t h = absurd g
-    all_outputs n (o ∷ outputs) [] nows g s goes t h = absurd g
-    all_outputs n (o ∷ outputs) (first ∷ firsts) [] g s goes t h = absurd h
-    all_outputs n (o ∷ outputs) (first ∷ firsts) (now ∷ nows) g s goes t h = (
-      output_came rows b e o first now (told_of n n o.path first.sink now.sink g.0 s.0) (fresh_of n o.path first.sink g.0) cut items front rest is none (h.0 o rows t.0 goes.0),
-      all_outputs (suc n) outputs firsts nows g.1 s.1 goes.1 t.1 h.1,
-    )
-
-  -- whose sink failed
-  pub all_marked : (rows : List Element) (cut : Bool) (items : List Item) (b e : List ℕ → SinkSeen) (n : ℕ) (outputs : List OutputConf) (nows : List (Output T K)) → Each (λ _ o (now : Output T K). OutputCame rows cut items b e o now.sink now.fault) n outputs nows
-      → map (λ t. nat_lt 0 (faults t)) (output_sinks nows) ≡ map output_failed (map (λ (x : Output T K). x.fault) nows)
-  all_marked rows cut items b e n [] [] c = refl
-  all_marked rows cut items b e n [] (now ∷ nows) c = absurd c
-  all_marked rows cut items b e n (o ∷ outputs) [] c = absurd c
-  all_marked rows cut items b e n (o ∷ outputs) (now ∷ nows) c = λ i. c.0.failed i ∷ all_marked rows cut items b e (suc n) outputs nows c.1 i
+    -- whose sink failed
+    pub all_marked : (rows : List Element) (cut : Bool) (items : List Item) (n : ℕ) (outputs : List OutputConf) (nows : List (Output T K)) → Each (λ _ o (now : Output T K). OutputCame rows cut items o now.sink now.fault) n outputs nows
+        → map (λ t. nat_lt 0 (faults t)) (output_sinks nows) ≡ map output_failed (map (λ (x : Output T K). x.fault) nows)
+    all_marked rows cut items n [] [] c = refl
+    all_marked rows cut items n [] (now ∷ nows) c = absurd c
+    all_marked rows cut items n (o ∷ outputs) [] c = absurd c
+    all_marked rows cut items n (o ∷ outputs) (now ∷ nows) c = λ i. c.0.failed i ∷ all_marked rows cut items (suc n) outputs nows c.1 i
 
   -- as many outputs as began
   pub nows_long : (stages : List StageConf) (items : List Item) (firsts nows : List (Output T K)) (wants : Option ℕ)

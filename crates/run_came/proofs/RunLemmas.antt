@@ -17,7 +17,7 @@ use Rattle.call_spec.specs.Came.{InputCame, Party, RunCame}
 use Rattle.call_spec.specs.Came.Came.{Ran}
 use Rattle.call_spec.specs.Counts.{PlaceKept, SinkKept, TextKept}
 use Rattle.call_spec.specs.declared.end.OutputFault.{OutputFault}
-use Rattle.call_spec.specs.Ends.{EndsOutput, HoldsBy, has_failed, output_failed}
+use Rattle.call_spec.specs.Ends.{EndsOutput, Holds, HoldsBy, has_failed, output_failed}
 use Rattle.call_spec.specs.Leaves.{Comes, Gave, HoldsResult, IsCounted, arrivals_in, at_of, beside, given_of, log_and, sink_names, stage_wants}
 use Rattle.call_spec.specs.Log.{HoldsLog}
 use Rattle.call_spec.specs.Names.{has, marked, times}
@@ -46,9 +46,10 @@ use Rattle.run_came.specs.Ends.{log_fault, wanting}
 use Rattle.run_inputs.specs.Made.{sources_of}
 use Rattle.run_came.specs.Ran.{RanOver, sinks_of}
 use Rattle.run_came.specs.Told.{CameToRun, IsNoted, TellsRun}
-use Rattle.run_came.proofs.InputLemmas.{all_failed, all_gave, ends_same, place_kept, places_are}
-use Rattle.run_came.proofs.SinkLemmas.{LogHeld, SinksCame, sink_kept, sinks_came, told_of}
-use Rattle.run_came.proofs.OutputLemmas.{AllWent, OutputCame, all_marked, all_outputs, all_went, located, nows_long, wanting_long}
+use Rattle.run_came.proofs.InputLemmas.{all_failed, all_gave, place_kept, places_are}
+use Rattle.run_came.proofs.HandedLemmas as handed
+use Rattle.run_came.proofs.SinkLemmas.{LogHeld, SinksCame, holds_at, sink_kept, sinks_came, told_of}
+use Rattle.run_came.proofs.OutputLemmas.{AllWent, OutputCame, all_marked, all_outputs, located}
 
 text_kept : (x y : TextSeen) → y ≡ x → TextKept false x y
 text_kept x y e = record { octets = ap (λ (t : TextSeen). t.octets) e; faults = ap (λ (t : TextSeen). t.faults) e }
@@ -71,41 +72,23 @@ module _ {S T K : Type 0} (left : S → Option (List Scripted)) (faults : S → 
   abbrev nows : List (Output T K)
   nows = taker.outputs.outputs.items
 
-  abbrev Came : Type 0
-  Came = (pairs : List (S × InputCame)) × Each (InputCameTo left faults (inputs_of conf) r.handed.entries) 0 pairs xs × (map (λ (p : S × InputCame). p.0) pairs ≡ r.sources)
+  abbrev took : Took stands held total own_faults r.handed.entries r.handed.first taker
+  took = r.handed.took
 
-  came : Came
-  came = all_came left faults (inputs_of conf) r.handed.entries 0 r.sources xs r.handed.so_far.each
+  abbrev came : (pairs : List (S × InputCame)) × Each (InputCameTo left faults (inputs_of conf) r.handed.entries) 0 pairs xs × (map (λ (p : S × InputCame). p.0) pairs ≡ r.sources)
+  came = handed.came left faults stands held total own_faults conf texts r.sources r.sinks xs taker ended r.handed
 
   abbrev cames : List InputCame
   cames = map (λ (p : S × InputCame). p.1) came.0
 
-  took : Took stands held total own_faults r.handed.entries r.handed.first taker
-  took = r.handed.took
-
   abbrev run : RunCame
-  run = record {
-    inputs = cames;
-    order = order_of took.front;
-    log = log_fault taker.log;
-    stages = wanting (length conf.stages) taker.outputs.wanting;
-    outputs = map (λ (o : Output T K). o.fault) nows;
-    counts = meant_counts ended.counts;
-  }
+  run = handed.run left faults stands held total own_faults conf texts r.sources r.sinks xs taker ended r.handed
 
-  inputs_long : length xs ≡ length conf.inputs
-  inputs_long =
-      sym (same_length (InputSoFar left faults (inputs_of conf) r.handed.entries) 0 r.sources xs r.handed.so_far.each)
-      ∙ (sym (same_length (Begins place_left place_faults place_openings place_out left faults all_left old.place) 0 places r.sources r.out.1.all.each) ∙ length-map conf.inputs (λ (c : InputConf). c.spec.place))
+  sources_long : length r.sources ≡ length conf.inputs
+  sources_long = sym (same_length (Begins place_left place_faults place_openings place_out left faults all_left old.place) 0 places r.sources r.out.1.all.each) ∙ length-map conf.inputs (λ (c : InputConf). c.spec.place)
 
   entries_are : AreEntriesOf left faults conf run (took.front ++ took.rest) xs
-  entries_are = subst (λ l. AreEntriesOf left faults conf run l xs) took.whole (record {
-    firsts = came.0;
-    each = came.1;
-    came = refl;
-    known = subst (λ n. Rattle.logged_outputs.specs.Entries.AreKnown n r.handed.entries) (same_length (InputSoFar left faults (inputs_of conf) r.handed.entries) 0 r.sources xs r.handed.so_far.each) r.handed.so_far.known;
-    ended = r.handed.ended;
-  })
+  entries_are = handed.entries_are left faults stands held total own_faults conf texts r.sources r.sinks xs taker ended r.handed
 
   -- ---- inputs
 
@@ -129,16 +112,13 @@ module _ {S T K : Type 0} (left : S → Option (List Scripted)) (faults : S → 
   -- ---- sinks
 
   firsts_long : length firsts ≡ length conf.outputs
-  firsts_long = sym (length-map firsts (λ (o : Output T K). o.texts)) ∙ (ap length r.handed.is_new.make ∙ long)
+  firsts_long = handed.firsts_long left faults stands held total own_faults conf texts r.sources r.sinks xs taker ended r.handed long
 
   ats_long : length ats ≡ length firsts
   ats_long = length-map (map output_party conf.outputs) (λ (p : Party). p.at) ∙ (length-map conf.outputs output_party ∙ sym firsts_long)
 
-  went : MatchOption taker.outputs.wanting (AllHave stands held total own_faults (items_through conf.stages (items_in took.front)) firsts nows) (CutShort stands held total own_faults conf.stages (items_in took.front) firsts nows)
-  went = took.written.went conf.stages (sym r.handed.is_new.behind)
-
   outputs_long : length nows ≡ length conf.outputs
-  outputs_long = nows_long stands held total own_faults conf.stages (items_in took.front) firsts nows taker.outputs.wanting went ∙ firsts_long
+  outputs_long = handed.outputs_long left faults stands held total own_faults conf texts r.sources r.sinks xs taker ended r.handed long
 
   sunk : SinksCame held own_faults names conf.order_log ats took.front took.rest taker.log firsts nows r.out.0.sink r.half_closed.sink
   sunk =
@@ -170,21 +150,25 @@ module _ {S T K : Type 0} (left : S → Option (List Scripted)) (faults : S → 
   cut = stage_wants run
 
   all_wrote : AllWent stands held total own_faults cut (items_through conf.stages (items_in took.front)) firsts nows
-  all_wrote = all_went stands held total own_faults conf.stages (items_in took.front) firsts nows taker.outputs.wanting went
+  all_wrote = handed.all_wrote left faults stands held total own_faults conf texts r.sources r.sinks xs taker ended r.handed
 
   module _ (rows : List Element) (s : Each (λ _ output makes. stands output rows [] makes) 0 conf.outputs texts) where
     abbrev items : List Item
     items = items_through conf.stages (items_in took.front)
 
+    -- what a sink name shows of a text
+    abbrev ShowsAt : (List ℕ → SinkSeen) → (List ℕ → SinkSeen) → OutputConf → K → List ℕ → Type 0
+    ShowsAt b e o sink text = Holds (b o.path).held (e o.path).held text
+
     abbrev HasCome : (List ℕ → SinkSeen) → (List ℕ → SinkSeen) → Type 0
-    HasCome b e = Each (λ _ o (now : Output T K). OutputCame stands held total own_faults rows cut items b e o now.sink now.fault) 0 conf.outputs nows
+    HasCome b e = Each (λ _ o (now : Output T K). OutputCame stands held total own_faults (ShowsAt b e) rows cut items o now.sink now.fault) 0 conf.outputs nows
 
     outputs_came : HasCome r.out.0.sink r.half_closed.sink
     outputs_came =
-        all_outputs stands held total own_faults rows cut items all_wrote.front all_wrote.rest all_wrote.whole all_wrote.all r.out.0.sink r.half_closed.sink
+        all_outputs stands held total own_faults (ShowsAt r.out.0.sink r.half_closed.sink) rows cut items all_wrote.front all_wrote.rest all_wrote.whole all_wrote.all
         (Begins sink_held sink_faults sink_openings sink_out held own_faults nothing_held r.out.0.sink)
         (λ k name sink. Shows sink_held sink_faults sink_openings sink_out held own_faults names r.half_closed.sink k name sink × (1 ≤ times name names))
-        (told_of held own_faults names distinct took.front took.rest r.out.0.sink r.half_closed.sink ats firsts nows ats_long)
+        (λ k m o first sink g s text t. holds_at (r.out.0.sink o.path).held (r.half_closed.sink o.path).held (held first) (held sink) text (told_of held own_faults names distinct took.front took.rest r.out.0.sink r.half_closed.sink ats firsts nows ats_long k m o.path first sink g s) t.0)
         (λ k name first g. g.1)
         0 conf.outputs firsts nows sunk.began sunk.shown r.handed.is_new.go_on
         (subst (λ (l : List T). Each (λ _ output makes. stands output rows [] makes) 0 conf.outputs l) (sym r.handed.is_new.make) s)
@@ -194,14 +178,14 @@ module _ {S T K : Type 0} (left : S → Option (List Scripted)) (faults : S → 
     sinks_kept p =
         moved (λ b e. SinkKept (times p names) (has p (marked names (beside conf.order_log (has_failed (log_fault taker.log)) (map output_failed run.outputs)))) (b p) (e p))
         (subst (λ (marks : List Bool). SinkKept (times p names) (has p (marked names marks)) (r.out.0.sink p) (r.half_closed.sink p))
-        (sunk.marks (map output_failed run.outputs) (all_marked stands held total own_faults rows cut items r.out.0.sink r.half_closed.sink 0 conf.outputs nows outputs_came))
+        (sunk.marks (map output_failed run.outputs) (all_marked stands held total own_faults (ShowsAt r.out.0.sink r.half_closed.sink) rows cut items 0 conf.outputs nows outputs_came))
         (sink_kept (times p names) (has p (marked names (map (λ t. nat_lt 0 (own_faults t)) (sinks_of taker)))) (r.out.0.sink p) (r.all_open.sink p) (r.half_closed.sink p) (r.out.2.all.counts p) (r.sinks_back.all.counts p)))
 
     come : (j : ℕ) → ComeTo conf (given_of run) (order_of took.front) j (through conf j (items_in took.front))
-    come j = order_items conf took.front took.rest cames (run_lists left faults conf run (took.front ++ took.rest) xs entries_are) j
+    come j = handed.come left faults stands held total own_faults conf texts r.sources r.sinks xs taker ended r.handed j
 
     -- of output j
-    holds_result : (j : ℕ) (o : OutputConf) (sink : K) (f : Option OutputFault) → slice_get conf.outputs j ≡ Some o → OutputCame stands held total own_faults rows cut items old.sink new.sink o sink f
+    holds_result : (j : ℕ) (o : OutputConf) (sink : K) (f : Option OutputFault) → slice_get conf.outputs j ≡ Some o → OutputCame stands held total own_faults (ShowsAt old.sink new.sink) rows cut items o sink f
         → HoldsResult conf rows run j f (old.sink o.path).held (new.sink o.path).held
     holds_result j o sink f at c = record {
       items = through conf j (items_in took.front);
@@ -211,7 +195,7 @@ module _ {S T K : Type 0} (left : S → Option (List Scripted)) (faults : S → 
     }
 
     all_hold : (front outputs : List OutputConf) (rest : List (Output T K)) (n : ℕ) → conf.outputs ≡ front ++ outputs → n ≡ length front
-        → Each (λ _ o (now : Output T K). OutputCame stands held total own_faults rows cut items old.sink new.sink o now.sink now.fault) n outputs rest
+        → Each (λ _ o (now : Output T K). OutputCame stands held total own_faults (ShowsAt old.sink new.sink) rows cut items o now.sink now.fault) n outputs rest
         → Each (λ j (party : Party) f. HoldsResult conf rows run j f (old.sink party.at).held (new.sink party.at).held) n (map output_party outputs) (map (λ (o : Output T K). o.fault) rest)
     all_hold front [] [] n whole is c = tt
     all_hold front [] (now ∷ rest) n whole is c = absurd c
@@ -225,10 +209,7 @@ module _ {S T K : Type 0} (left : S → Option (List Scripted)) (faults : S → 
     holds = all_hold [] conf.outputs nows 0 refl refl (moved HasCome outputs_came)
 
     counted : IsCounted (Described conf rows) run
-    counted calm_all =
-        let c = noted.counts in
-        let t = run_counts left faults conf run (took.front ++ took.rest) xs c.0 entries_are calm_all c.1 in
-        (t.0, t.1, ap meant_counts (c.2 ∙ t.2))
+    counted = handed.counted left faults stands held total own_faults conf texts r.sources r.sinks xs taker ended r.handed noted
 
     comes : Comes left faults (Described conf rows) (Ran run) old new
     comes = record {
@@ -237,25 +218,16 @@ module _ {S T K : Type 0} (left : S → Option (List Scripted)) (faults : S → 
       sinks = sinks_kept;
       leaves = record {
         gave = gave rows;
-        ordered = is_order conf run took.front took.rest (run_lists left faults conf run (took.front ++ took.rest) xs entries_are) refl sunk.none_left;
+        ordered = handed.ordered left faults stands held total own_faults conf texts r.sources r.sinks xs taker ended r.handed sunk.none_left;
         logged = logged;
-        stages = wanting_long (length conf.stages) taker.outputs.wanting ∙ sym (length-map conf.stages (λ (c : StageConf). c.name));
+        stages = handed.stages_long left faults stands held total own_faults conf texts r.sources r.sinks xs taker ended r.handed ∙ sym (length-map conf.stages (λ (c : StageConf). c.name));
         holds = holds;
         counted = counted;
       };
     }
 
   tells : TellsRun conf run ended
-  tells = record {
-    inputs = noted.inputs ∙ ends_same left faults conf r.handed.entries 0 came.0 xs came.1;
-    log = noted.log;
-    stages = noted.stages_are;
-    outputs = noted.outputs;
-    counts = refl;
-    inputs_long = ap length noted.inputs ∙ (length-map xs (λ (x : Input S). Rattle.run_entries.specs.Came.end_or x.end) ∙ inputs_long);
-    stages_long = ap length noted.stages_are ∙ wanting_long (length conf.stages) taker.outputs.wanting;
-    outputs_long = ap length noted.outputs ∙ (length-map nows (λ (o : Output T K). o.fault) ∙ outputs_long);
-  }
+  tells = handed.tells left faults stands held total own_faults conf texts r.sources r.sinks xs taker ended r.handed long noted sources_long
 
   pub came_to : CameToRun left faults stands conf texts ended old new
   came_to = (run, tells, r.sources_back.rest.say ∙ (r.sinks_back.rest.say ∙ (r.out.2.rest.say ∙ r.out.1.rest.say)), λ rows s. comes rows s)

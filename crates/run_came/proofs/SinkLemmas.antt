@@ -84,7 +84,7 @@ pub record SinksCame {T K : Type 0} (held : K → Option (List ℕ)) (faults : K
   pub marks : (own : List Bool) → map (λ t. nat_lt 0 (faults t)) (output_sinks nows) ≡ own → map (λ t. nat_lt 0 (faults t)) (log_sinks log ++ output_sinks nows) ≡ beside path (has_failed (log_fault log)) own
 
 module _ {K : Type 0} (held : K → Option (List ℕ)) (faults : K → ℕ) where
-  no_log : (front rest : List Entry) (old new : Option (OrderLog K)) → old ≡ None → LogTook held faults front rest old new → (new ≡ None) × (rest ≡ [])
+  pub no_log : (front rest : List Entry) (old new : Option (OrderLog K)) → old ≡ None → LogTook held faults front rest old new → (new ≡ None) × (rest ≡ [])
   no_log front rest None None e l = (refl, l)
   no_log front rest None (Some m) e l = absurd l
   no_log front rest (Some f) new e l = absurd cc

@@ -19,7 +19,7 @@ inputs_named : (inputs : List InputConf) → map input_name inputs ≡ names_of 
 inputs_named [] = refl
 inputs_named (c ∷ inputs) = ap (λ l. input_name c ∷ l) (inputs_named inputs)
 
-outputs_named : (outputs : List OutputConf) → map output_name outputs ≡ names_of (map output_party outputs)
+pub outputs_named : (outputs : List OutputConf) → map output_name outputs ≡ names_of (map output_party outputs)
 outputs_named [] = refl
 outputs_named (c ∷ outputs) = ap (λ l. output_name c ∷ l) (outputs_named outputs)
 

@@ -4,7 +4,7 @@ use Rattle.config_spec.specs.declared.conf.Conf.{Conf}
 use Rattle.config_spec.specs.declared.conf.InputConf.{InputConf}
 use Rattle.config_spec.specs.declared.conf.StageConf.{StageConf}
 use Rattle.config_spec.specs.declared.conf.OutputConf.{OutputConf}
-use Rattle.call_spec.specs.Lines.{input_line, log_line, stage_line, output_line, lines_by}
+use Rattle.call_spec.specs.Lines.{input_line, log_line, stage_line, octets_line, output_line, lines_by}
 use Rattle.call_spec.specs.Status.{end_code, fault_code, output_code, stage_code, worst}
 use Rattle.call_spec.specs.Summary.{summary_text}
 use Rattle.run_lines.specs.declared.ended.Ended.{Ended}
@@ -27,6 +27,10 @@ fault_text conf ended = lines_by input_line (map input_name conf.inputs) ended.i
 -- and behind them its summary
 abbrev pub run_text : Conf → Ended → List ℕ
 run_text conf ended = fault_text conf ended ++ summary_text (meant_counts ended.counts)
+
+-- and of generated load how many octets each output has
+abbrev pub load_text : Conf → Ended → List ℕ → List ℕ
+load_text conf ended counts = run_text conf ended ++ lines_by octets_line (map output_name conf.outputs) counts
 
 -- the greatest status that came
 abbrev pub ended_code : Ended → ℕ

@@ -23,12 +23,14 @@ pub enum Piece {
     Elements,
     Colon,
     Log,
+    Octets,
+    Space,
     End,
 }
 
 impl Piece {
     /// The octets of the piece.
-    #[tactic(auto, unfolding(call_spec::specs::Lines::usage_text, call_spec::specs::Lines::fine_text, call_spec::specs::Lines::memory_text, call_spec::specs::Lines::source_start, call_spec::specs::Lines::sink_start, call_spec::specs::Lines::limit_start, call_spec::specs::Lines::memory_start, call_spec::specs::Lines::description_start, call_spec::specs::Lines::elements_start, call_spec::specs::Lines::colon, call_spec::specs::Lines::log_name, call_spec::specs::Lines::line_end))]
+    #[tactic(auto, unfolding(call_spec::specs::Lines::usage_text, call_spec::specs::Lines::fine_text, call_spec::specs::Lines::memory_text, call_spec::specs::Lines::source_start, call_spec::specs::Lines::sink_start, call_spec::specs::Lines::limit_start, call_spec::specs::Lines::memory_start, call_spec::specs::Lines::description_start, call_spec::specs::Lines::elements_start, call_spec::specs::Lines::colon, call_spec::specs::Lines::log_name, call_spec::specs::Lines::octets_start, call_spec::specs::Lines::space, call_spec::specs::Lines::line_end))]
     pub fn octets(self) -> &'static [u8]
         ensures { result.now ≡ piece_text self }
     {
@@ -45,6 +47,8 @@ impl Piece {
             Piece::Elements => b"elements ",
             Piece::Colon => b": ",
             Piece::Log => b"order-log",
+            Piece::Octets => b"octets ",
+            Piece::Space => b" ",
             Piece::End => b"\n",
         }
     }

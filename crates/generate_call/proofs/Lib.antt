@@ -1,0 +1,3 @@
+mod KnownConf
+mod LoadLemmas
+mod CallLemmas
