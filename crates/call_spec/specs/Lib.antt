@@ -13,3 +13,4 @@ pub mod Texts
 pub mod Leaves
 pub mod Call
 pub mod Examples
+pub mod Again
