@@ -1,9 +1,10 @@
 #!/usr/bin/env bash
 # collect.sh [MEGABYTES [ROUNDS [CONVERTER]]]: makes an IPFIX File of 3 fields and one of 12, and prints what `ipfixcol
 # collect` takes over each, of processor time and of memory, beside `direct` and beside a converter in C that trusts its
-# input. CONVERTER is a program that is called with IN and OUT; without it converter.c is compiled, which knows the elements
-# of the 3 fields alone. All are run in turn, and the least and the median of the rounds' ratios are printed. What `collect`
-# and `direct` write is to be the same. The program has to be built before (rt run in crates/ipfixcol).
+# input, and what it takes with an output of IPFIX Files in the place of JSON. CONVERTER is a program that is called with IN and
+# OUT; without it converter.c is compiled, which knows the elements of the 3 fields alone. All are run in turn, and the least and
+# the median of the rounds' ratios are printed. What `collect` and `direct` write of JSON is to be the same. The program has to be
+# built before (rt run in crates/ipfixcol).
 set -eu
 here=$(cd "$(dirname "$0")" && pwd)
 program=$here/../crates/ipfixcol/out/ipfixcol
@@ -22,6 +23,7 @@ for fields in 3 12; do
         printf 'version = 1\n[[input]]\nname = "in"\nkind = "file"\npath = "%s"\n' "$file" > "$folder/$(basename "$out").toml"
         printf '[[output]]\nname = "out"\nkind = "json"\npath = "%s"\n' "$out" >> "$folder/$(basename "$out").toml"
     done
+    sed 's/kind = "json"/kind = "ipfix"/' "$folder/null.toml" > "$folder/ipfix.toml"
     "$program" collect -c "$folder/out.json.toml" > /dev/null
     "$program" direct "$file" "$folder/direct.json"
     cmp "$folder/out.json" "$folder/direct.json"
@@ -32,6 +34,7 @@ import os, resource, statistics, sys
 
 program, description, file, rounds, fields, converter = sys.argv[1:]
 commands = {'collect': [program, 'collect', '-c', description], 'direct': [program, 'direct', file, '/dev/null']}
+commands['files'] = [program, 'collect', '-c', os.path.join(os.path.dirname(description), 'ipfix.toml')]
 if converter:
     commands['C'] = [converter, file, '/dev/null']
 
@@ -51,9 +54,11 @@ def run(words):
 rows = [{name: run(words) for name, words in commands.items()} for _ in range(int(rounds))]
 least = {name: min(row[name][0] for row in rows) for name in commands}
 print(f"{fields} fields, {os.path.getsize(file)} octets: " + ', '.join(f'{name} {seconds:.3f} s' for name, seconds in least.items()))
-for other in list(commands)[1:]:
+for other in [name for name in ('direct', 'C') if name in commands]:
     ratios = [row['collect'][0] / row[other][0] for row in rows]
     print(f"  collect beside {other}: {statistics.median(ratios):.2f} (median), {least['collect'] / least[other]:.2f} (least of each)")
+ratios = [row['files'][0] / row['collect'][0] for row in rows]
+print(f"  files beside collect: {statistics.median(ratios):.2f} (median), {least['files'] / least['collect']:.2f} (least of each)")
 print(f"  memory at most {max(row['collect'][1] for row in rows) / 1024:.1f} MB")
 PY
     rm "$file"

@@ -1,3 +1,4 @@
+mod AgainLemmas
 mod CauseLemmas
 mod KnownTexts
 mod CompleteLemmas

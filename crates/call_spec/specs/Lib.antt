@@ -15,3 +15,4 @@ pub mod Leaves
 pub mod Call
 pub mod Causes
 pub mod Examples
+pub mod Again

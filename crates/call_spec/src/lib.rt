@@ -7,14 +7,16 @@
 //! often a name was opened, and whether something of it failed. So two inputs may share a place.
 //!
 //! It has definitions alone, with the plain type that they share with the code, and what they mean: which faults can give a
-//! status, and how examples of runs end, each as the contract of an empty function. Laws of lists side by side stand in
-//! its proofs.
+//! status, that what an output of files holds is read as what came to it, and how examples of runs end, each as the contract of
+//! an empty function. Laws of lists side by side stand in its proofs.
 #![tactic(auto)]
 
+mod again;
 mod cause;
 mod end;
 mod example;
 
+pub use again::what_an_output_of_files_holds_is_read_again;
 pub use cause::{
     a_run_without_a_cause_is_done, a_status_has_its_cause, generated_load_has_no_other_fault,
 };

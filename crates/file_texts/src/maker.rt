@@ -91,8 +91,7 @@ impl MessageTexts for FileTexts {
 
     ghost last = { λ t. t.text };
 
-    /// Makes the text of the next message. `NoMemory` is told also of a message whose sets have more octets than those of a
-    /// message can have, 65,535 with its header: decoding gives none.
+    /// Makes the text of the next message.
     fn put(&mut self, message: &Msg) -> Result<(), TextFault> {
         match self.put_message(message) {
             Ok(()) => Ok(()),

@@ -44,7 +44,7 @@ data_behind : (stages : List StageConf) (works : List StageWork) (m : DataMessag
     → items_through stages (data_of m ∷ []) ≡ Data m.session m.domain m.export m.seq (sets_behind works (map (set_of m.octets.value) m.sets.items)) ∷ []
 data_behind stages works m is sound =
     let sets = map (set_of m.octets.value) m.sets.items in
-    message_behind stages m.session m.domain m.export m.seq sets (all_filled m.octets.value m.sets.items sound)
+    message_behind stages m.session m.domain m.export m.seq sets (all_filled m.octets.value m.sets.items sound.0)
     ∙ ap (λ (w : List StageWork). Data m.session m.domain m.export m.seq (sets_behind w sets) ∷ []) is
 
 pub left_behind : (works : List StageWork) (message left : Msg) (m : DataMessage) → item_of message ≡ Some (data_of m) → IsSound m → IsLeftOf works m left → IsBehind works message left

@@ -93,6 +93,7 @@ fn put_sets(
 }
 
 /// The message of these sets, and of these copies, if an intermediate changes records.
+#[tactic(auto, using(crate::proofs::RoomLemmas::left_room))]
 fn message_of(
     alloc: Global,
     stages: &[Stage],
@@ -100,7 +101,8 @@ fn message_of(
     copies: Vec<u8>,
     sets: Vec<DataSet>,
 ) -> Result<Msg, AllocError>
-    requires { AreSetsLeft stages.now message.now.octets.value message.now.sets.items copies.items sets.items }
+    requires sound { IsSound message.now }
+    requires left { AreSetsLeft stages.now message.now.octets.value message.now.sets.items copies.items sets.items }
     ensures { IfOk result (IsLeftOf stages.now message.now) }
 {
     let left = DataMessage {

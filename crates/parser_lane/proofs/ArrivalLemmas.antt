@@ -1,5 +1,5 @@
 -- A parser stands for one arrival more.
-use Rattle.std.proofs.Common.{◌≡◌, ℕ, Bool, true, false, ◌&&◌, cond, List, [], ◌∷◌, ◌++◌, map, Some, None, refl, ap, sym, subst, ◌∙◌, append-nil}
+use Rattle.std.proofs.Common.{◌≡◌, ℕ, ◌≤◌, length, arith, Bool, true, false, ◌&&◌, cond, List, [], ◌∷◌, ◌++◌, map, Some, None, refl, ap, sym, subst, ◌∙◌, append-nil}
 use Rattle.std.specs.Prelude.{◌==◌, nat_eq, Option, Result, Ok, Err, IsSome, fold}
 use Rattle.std.proofs.lemmas.Bool.{true≢false}
 use Rattle.std.proofs.lemmas.List.Concat.{flat_map-append}
@@ -20,6 +20,7 @@ use Rattle.run_spec.specs.Work.{Item, outcomes_if, work_of, works_of}
 use Rattle.run_spec.specs.Work.Item.{Note, Tick, Data}
 use Rattle.run_spec.proofs.ApartLemmas.{same_is, own_is}
 use Rattle.run_spec.proofs.MoreLemmas.{one_more_work}
+use Rattle.file_spec.specs.Fit.{message_octets}
 use Rattle.count_spec.specs.Counts.{Counts, counts, expected, expected_by, next_number, taken_as}
 use Rattle.count_spec.specs.Examples.{nothing_counted}
 use Rattle.count_spec.specs.More.{added, counts_of}
@@ -43,6 +44,7 @@ use Rattle.parser_lane.specs.declared.open_sessions.OpenSessions.{OpenSessions}
 use Rattle.parser_lane.specs.declared.parser.Parser.{Parser}
 use Rattle.parser_lane.specs.Parsers.{MayCome, HasSession, inputs, numbers_due, SessionAt, IsFresh, Stands, CanCome, HasOctets, IsMadeOf, GivesItem, WorksBy, counts_by, malformed_by, sets_in}
 use Rattle.parser_lane.proofs.KeyLemmas.{open_more, same_turned, other_key, opened_later, unopened_before, open_here, open_away, close_here, close_away}
+use Rattle.parser_lane.proofs.RoomLemmas.{judged_room}
 use Rattle.parser_lane.proofs.CountLemmas.{counts_more, add_nothing, add_malformed, add_late, add_crowded, add_taken, taken_adds, judged_work}
 
 -- ---- what an arrival adds to a session
@@ -192,11 +194,14 @@ raw_open : (read : List ReadArrival) (k key : SessionKey) (m : Result Message Ma
 raw_open read k key m = ap (has_key key) (open_more read (Raw k m))
 
 -- a message that is made of sound sets is sound
-sound_made : (octets : List ℕ) (sets : List DataSet) (msg : Msg) → IsMadeOf octets sets msg → AreSound octets sets → IsSoundMessage msg
-sound_made octets sets (SessionMsg note) made sound = absurd made
-sound_made octets sets (DataMsg m) made sound = subst (λ l. AreSound l m.value.sets.items) (sym made.0) (subst (AreSound octets) (sym made.1) sound)
-sound_made octets sets (PeriodicMsg input seconds) made sound = absurd made
-sound_made octets sets Terminate made sound = absurd made
+sound_made : (octets : List ℕ) (sets : List DataSet) (msg : Msg) → IsMadeOf octets sets msg → AreSound octets sets → message_octets (map (set_of octets) sets) ≤ 65535 → IsSoundMessage msg
+sound_made octets sets (SessionMsg note) made sound room = absurd made
+sound_made octets sets (DataMsg m) made sound room = (
+  subst (λ l. AreSound l m.value.sets.items) (sym made.0) (subst (AreSound octets) (sym made.1) sound),
+  subst (λ l. message_octets (map (set_of l) m.value.sets.items) ≤ 65535) (sym made.0) (subst (λ l. message_octets (map (set_of octets) l) ≤ 65535) (sym made.1) room),
+)
+sound_made octets sets (PeriodicMsg input seconds) made sound room = absurd made
+sound_made octets sets Terminate made sound room = absurd made
 
 octets_made : (octets : List ℕ) (sets : List DataSet) (msg : Msg) → IsMadeOf octets sets msg → HasOctets octets msg
 octets_made octets sets (SessionMsg note) made = absurd made
@@ -212,7 +217,7 @@ malformed_worked key octets old new fault msg first item made same_transport sam
   (Err fault, first, refl),
   λ settings read s come. record {
     item = item;
-    sound = sound_made octets [] msg made tt;
+    sound = sound_made octets [] msg made tt (omega arith);
     octets = octets_made octets [] msg made;
     stands = stands_later (Raw key (Err fault)) new s same_transport same_life (λ k e. quiet refl (λ domain x. refl))
         (λ k. subst (λ rows. SessionAt settings (read ++ Raw key (Err fault) ∷ []) k (get same_key rows k)) (sym same_rows) (still settings read (Raw key (Err fault)) k (get same_key old.rows k) (quiet refl (λ domain x. refl)) (raw_open read key k (Err fault)) (s.each k)))
@@ -271,10 +276,10 @@ fate_gives settings read key octets m (Taken t) f =
     }
 
 -- a well-formed one
-pub well_worked : (key : SessionKey) (octets : List ℕ) (old new : OpenSessions) (d e : Domains) (fate : Fate) (msg : Msg) (m : Message) → Says octets m → get same_key old.rows key ≡ Some d
+pub well_worked : (key : SessionKey) (octets : List ℕ) (old new : OpenSessions) (d e : Domains) (fate : Fate) (msg : Msg) (m : Message) → Says octets m → length octets ≤ 65535 → get same_key old.rows key ≡ Some d
     → ((k : SessionKey) → get same_key new.rows k ≡ cond (same_key key k) (Some e) (get same_key old.rows k)) → Takes octets d e fate → item_of msg ≡ Some (Data key m.domain m.export m.sequence (map (set_of octets) (sets_in fate)))
     → IsMadeOf octets (sets_in fate) msg → new.transport ≡ old.transport → new.life ≡ old.life → new.counts ≡ counts_by fate old.counts → WorksBy (Some (Raw key octets)) old new msg
-well_worked key octets old new d e fate msg m says found updates takes item made same_transport same_life counted = (
+well_worked key octets old new d e fate msg m says most found updates takes item made same_transport same_life counted = (
   Raw key (Ok m),
   (Ok m, says, refl),
   λ settings read s come. worked settings read s come (subst (SessionAt settings read key) found (s.each key)),
@@ -289,7 +294,8 @@ well_worked key octets old new d e fate msg m says found updates takes item made
         let here : SessionAt settings (read ++ Raw key (Ok m) ∷ []) key (Some e) =
         (raw_open read key key (Ok m) ∙ at.0, stand_due g.due (subst (λ l. StandFor settings l (due_later settings (messages_of key read) (numbers_due settings read key) m) e) (sym messages) f.1)) in record {
           item = item ∙ ap (λ l. Some (Data key m.domain m.export m.sequence l)) (sym g.sets);
-          sound = sound_made octets (sets_in fate) msg made g.sound;
+          sound = sound_made octets (sets_in fate) msg made g.sound
+              (subst (λ l. message_octets l ≤ 65535) g.sets (judged_room settings (messages_of key read) octets m says most (judge settings (messages_of key read) m)));
           octets = octets_made octets (sets_in fate) msg made;
           stands = stands_later (Raw key (Ok m)) new s same_transport same_life (λ k unopened. quiet_away settings read key k m (other_key key k (opened_keys read) (s.opened key come) unopened))
               (λ k. subst (SessionAt settings (read ++ Raw key (Ok m) ∷ []) k) (sym (updates k)) (each settings read s here k (same_key key k) refl)) (counted ∙ (ap (counts_by fate) s.counts_are ∙ g.counted));

@@ -1,4 +1,5 @@
 pub mod KeyLemmas
 pub mod CountLemmas
+pub mod RoomLemmas
 pub mod ArrivalLemmas
 pub mod SessionLemmas

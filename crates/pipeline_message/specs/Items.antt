@@ -7,6 +7,7 @@ use Rattle.run_spec.specs.Records.{Record, record_of}
 use Rattle.run_spec.specs.Outcome.{DecodedSet}
 use Rattle.run_spec.specs.Work.{Item}
 use Rattle.run_spec.specs.Work.Item.{Note, Tick, Data}
+use Rattle.file_spec.specs.Fit.{message_octets}
 use Rattle.pipeline_message.specs.declared.message.Place.{Place}
 use Rattle.pipeline_message.specs.declared.message.DataSet.{DataSet}
 use Rattle.pipeline_message.specs.declared.message.DataMessage.{DataMessage}
@@ -47,8 +48,9 @@ IsRecordAt fields octets p = (p.start + p.len ≤ length octets) × IsSomeRecord
 abbrev pub IsSoundSet : List ℕ → DataSet → Type 0
 IsSoundSet octets s = (s.places.items ≢ []) × AllByRecursion (IsRecordAt s.def.value.fields octets) s.places.items
 
+-- each set is sound, and a message has room for all their records
 abbrev pub IsSound : DataMessage → Type 0
-IsSound m = AllByRecursion (IsSoundSet m.octets.value) m.sets.items
+IsSound m = AllByRecursion (IsSoundSet m.octets.value) m.sets.items × (message_octets (map (set_of m.octets.value) m.sets.items) ≤ 65535)
 
 -- a data message is sound
 abbrev pub IsSoundMessage : Msg → Type 0
