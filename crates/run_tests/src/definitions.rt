@@ -28,24 +28,24 @@ kind = \"json\"
 path = \"OUT\"
 ";
 
-/// The front of a message with Template 256 of element 1 of an enterprise, up to the number of the enterprise.
-const FRONT: &[u8] = &[
-    0, 10, 0, 40, 0, 0, 0, 100, 0, 0, 0, 0, 0, 0, 0, 1, 0, 2, 0, 16, 1, 0, 0, 1, 128, 1, 0, 4,
-];
+/// The front of a message with a template and a record, up to its domain.
+const FRONT: &[u8] = &[0, 10, 0, 40, 0, 0, 0, 100, 0, 0, 0, 0];
 
-/// What follows it: a record.
-const RECORD: &[u8] = &[1, 0, 0, 8, 0, 0, 0, 7];
+/// The front of a message with a withdrawal.
+const WITHDRAWING: &[u8] = &[0, 10, 0, 24, 0, 0, 0, 100, 0, 0, 0, 1];
 
 /// How many messages come.
 const MESSAGES: u32 = 100_000;
 
-/// Which connections bring the messages.
+/// How the messages come.
 #[derive(Clone, Copy)]
 enum Brought {
-    /// One brings all.
+    /// One connection brings all, with definitions of one Template ID.
     Together,
-    /// Each is brought by one of its own, which closes then.
+    /// Each is brought by a connection of its own, which closes then.
     Alone,
+    /// One connection brings all. Each definition has its own Template ID, and is withdrawn.
+    Withdrawn,
 }
 
 /// The events of a source.
@@ -75,15 +75,77 @@ impl Events {
     }
 }
 
-/// A message with a definition and a record.
-fn message_of(alloc: Global, enterprise: u32) -> Result<Octets, AllocError>
+/// The domain and the Template ID of a definition.
+fn template_of(brought: Brought, definition: u32) -> (u32, u16) {
+    match brought {
+        Brought::Together | Brought::Alone => (1, 256),
+        Brought::Withdrawn => (
+            definition / 50_000,
+            u16::try_from(definition % 50_000)
+                .unwrap_or(0)
+                .saturating_add(256),
+        ),
+    }
+}
+
+/// A message with a definition of element 1 of an enterprise, and with a record.
+fn message_of(
+    alloc: Global,
+    domain: u32,
+    template: u16,
+    enterprise: u32,
+) -> Result<Octets, AllocError>
     ensures { IfOk result (λ message. length message ≡ 40) }
 {
     let mut octets = Vec::new(alloc);
     octets.extend_from_slice(FRONT)?;
+    octets.extend_from_slice(&domain.to_be_bytes())?;
+    octets.extend_from_slice(&[0, 2, 0, 16])?;
+    octets.extend_from_slice(&template.to_be_bytes())?;
+    octets.extend_from_slice(&[0, 1, 128, 1, 0, 4])?;
     octets.extend_from_slice(&enterprise.to_be_bytes())?;
-    octets.extend_from_slice(RECORD)?;
+    octets.extend_from_slice(&template.to_be_bytes())?;
+    octets.extend_from_slice(&[0, 8, 0, 0, 0, 7])?;
     Ok(Octets::from_vec(octets))
+}
+
+/// A message that withdraws a template.
+fn withdrawal_of(alloc: Global, domain: u32, template: u16) -> Result<Octets, AllocError>
+    ensures { IfOk result (λ message. length message ≡ 24) }
+{
+    let mut octets = Vec::new(alloc);
+    octets.extend_from_slice(WITHDRAWING)?;
+    octets.extend_from_slice(&domain.to_be_bytes())?;
+    octets.extend_from_slice(&[0, 2, 0, 8])?;
+    octets.extend_from_slice(&template.to_be_bytes())?;
+    octets.extend_from_slice(&[0, 0])?;
+    Ok(Octets::from_vec(octets))
+}
+
+/// The events by which a message comes.
+fn push_message(
+    alloc: Global,
+    events: &mut Events,
+    brought: Brought,
+    number: u32,
+    definition: u32,
+) -> Result<(), AllocError> {
+    let (domain, template) = template_of(brought, definition);
+    let enterprise = definition.saturating_add(1_000_000);
+    let message = message_of(alloc, domain, template, enterprise)?;
+    match brought {
+        Brought::Together => events.push(Scripted::Bytes(MESSAGES, message)),
+        Brought::Alone => {
+            events.push(Scripted::Opened(number))?;
+            events.push(Scripted::Bytes(number, message))?;
+            events.push(Scripted::Closed(number))
+        }
+        Brought::Withdrawn => {
+            events.push(Scripted::Bytes(MESSAGES, message))?;
+            let message = withdrawal_of(alloc, domain, template)?;
+            events.push(Scripted::Bytes(MESSAGES, message))
+        }
+    }
 }
 
 /// The messages. So many in a row have one definition.
@@ -91,19 +153,8 @@ fn events_of(alloc: Global, brought: Brought, row: u32) -> Result<Events, AllocE
     let mut events = Events::new(alloc);
     events.push(Scripted::Opened(MESSAGES))?;
     for number in 0..MESSAGES {
-        let enterprise = number
-            .checked_div(row)
-            .unwrap_or(0)
-            .saturating_add(1_000_000);
-        let message = message_of(alloc, enterprise)?;
-        match brought {
-            Brought::Together => events.push(Scripted::Bytes(MESSAGES, message))?,
-            Brought::Alone => {
-                events.push(Scripted::Opened(number))?;
-                events.push(Scripted::Bytes(number, message))?;
-                events.push(Scripted::Closed(number))?;
-            }
-        }
+        let definition = number.checked_div(row).unwrap_or(0);
+        push_message(alloc, &mut events, brought, number, definition)?;
     }
     Ok(events)
 }
@@ -189,6 +240,21 @@ fn definitions_of_closed_sessions_leave_no_memory(rt: HostRuntime) -> Result<(),
     run(rt.alloc(), &rt, Brought::Alone, 100)?;
     let before = peak(&rt)?;
     run(rt.alloc(), &rt, Brought::Alone, 1)?;
+    let behind = peak(&rt)?;
+    assert!(rt;
+        behind <= before.saturating_add(2_000),
+        "{before} KiB, {behind} KiB"
+    );
+    Ok(())
+}
+
+/// The same where each definition has a Template ID of its own and is withdrawn.
+#[test]
+fn definitions_that_are_withdrawn_leave_no_memory(rt: HostRuntime) -> Result<(), Fail> {
+    run(rt.alloc(), &rt, Brought::Withdrawn, 100)?;
+    run(rt.alloc(), &rt, Brought::Withdrawn, 100)?;
+    let before = peak(&rt)?;
+    run(rt.alloc(), &rt, Brought::Withdrawn, 1)?;
     let behind = peak(&rt)?;
     assert!(rt;
         behind <= before.saturating_add(2_000),
