@@ -1,5 +1,5 @@
 -- What is kept of the definitions of all sessions.
-use Rattle.std.specs.Prelude.{◌≡◌, ℕ, ◌+◌, ◌*◌, ◌^◌, ◌&&◌, if◌then◌else◌, Option, None, Some, option_map, nat_eq}
+use Rattle.std.specs.Prelude.{◌≡◌, ◌⊎◌, ℕ, Bool, true, false, ◌+◌, ◌*◌, ◌^◌, if◌then◌else◌, Option, None, Some, option_map, nat_eq}
 use Rattle.indexmap.specs.IndexMap.{get}
 use Rattle.col_base.specs.declared.base.SessionKey.{SessionKey}
 use Rattle.wire_spec.specs.Content.{Definition}
@@ -30,13 +30,30 @@ module _ {T : Type 0} where
   abbrev pub kept : KeptForms T → ℕ → ℕ → Option (Definition × T)
   kept forms session template = kept_of (get nat_eq forms.sessions session) template
 
-  -- under these numbers this is kept now, and all else is as it was
-  abbrev pub Keeps : ℕ → ℕ → Definition → T → KeptForms T → KeptForms T → Type 0
-  Keeps session template definition made old new = (s t : ℕ) → kept new s t ≡ (if nat_eq session s && nat_eq template t then Some (definition, made) else kept old s t)
+  -- a form is what it was, or was let go
+  abbrev pub StaysOrGoes : Option (Definition × T) → Option (Definition × T) → Type 0
+  StaysOrGoes old new = (new ≡ old) ⊎ (new ≡ None)
 
-  -- all is as it was
-  abbrev pub IsAsItWas : KeptForms T → KeptForms T → Type 0
-  IsAsItWas old new = (s t : ℕ) → kept new s t ≡ kept old s t
+  -- what is kept under a number: this, or under all others what was
+  abbrev pub KeepsAt : Bool → Definition × T → Option (Definition × T) → Option (Definition × T) → Type 0
+  KeepsAt true form old new = new ≡ Some form
+  KeepsAt false form old new = StaysOrGoes old new
+
+  abbrev pub KeepsIn : ℕ → Definition × T → SessionForms T → SessionForms T → Type 0
+  KeepsIn template form old new = (t : ℕ) → KeepsAt (nat_eq template t) form (kept_in old t) (kept_in new t)
+
+  abbrev pub LetsGoIn : SessionForms T → SessionForms T → Type 0
+  LetsGoIn old new = (t : ℕ) → StaysOrGoes (kept_in old t) (kept_in new t)
+
+  -- Under these numbers this is kept now. All else is as it was, but that forms of the session may be let go.
+  pub record Keeps (session template : ℕ) (definition : Definition) (made : T) (old new : KeptForms T) : Type 0 where
+    pub its : (t : ℕ) → KeepsAt (nat_eq template t) (definition, made) (kept old session t) (kept new session t)
+    pub others : (s t : ℕ) → nat_eq session s ≡ false → kept new s t ≡ kept old s t
+
+  -- all is as it was, but that forms of this session may be let go
+  pub record LetsGo (session : ℕ) (old new : KeptForms T) : Type 0 where
+    pub its : (t : ℕ) → StaysOrGoes (kept old session t) (kept new session t)
+    pub others : (s t : ℕ) → nat_eq session s ≡ false → kept new s t ≡ kept old s t
 
   -- nothing is kept of a session now, and all else is as it was
   abbrev pub Forgets : ℕ → KeptForms T → KeptForms T → Type 0

@@ -1,6 +1,6 @@
 // The forms of all sessions.
 ghost use Rattle.std.specs.Prelude.{◌≡◌, ℕ, None, Some, MatchOption, OnErr, OnOk};
-ghost use Rattle.kept_forms.specs.Kept.{kept, session_number, template_number, Forgets, IsAsItWas, Keeps};
+ghost use Rattle.kept_forms.specs.Kept.{kept, session_number, template_number, Forgets, Keeps, LetsGo};
 
 use crate::numbers::{session_number, template_number};
 use crate::session::{Form, SessionForms};
@@ -43,8 +43,8 @@ impl<T: Drop> KeptForms<T> {
         forms.find(template_number(domain, template), definition)
     }
 
-    /// Keeps what was made of the definition of a Template ID, in place of what was made of the one before it. Where memory
-    /// is wanted nothing changes.
+    /// Keeps what was made of the definition of a Template ID, in place of what was made of the one before it. Where more is
+    /// kept of the session than may be, all else of it is let go.
     pub fn keep(
         &mut self,
         session: SessionKey,
@@ -54,7 +54,7 @@ impl<T: Drop> KeptForms<T> {
         made: T,
     ) -> Result<(), AllocError>
         ensures ok { OnOk result (Keeps (session_number session) (template_number domain template) definition.now.value made self.old self.new) }
-        ensures err { OnErr result (IsAsItWas self.old self.new) }
+        ensures err { OnErr result (LetsGo (session_number session) self.old self.new) }
     {
         let form = Form {
             definition: definition.clone()?,

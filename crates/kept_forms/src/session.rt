@@ -1,11 +1,14 @@
 // The forms of one session.
-ghost use Rattle.std.specs.Prelude.{◌≡◌, ℕ, true, false, if◌then◌else◌, Some, None, nat_eq, MatchOption, OnErr, OnOk};
-ghost use Rattle.kept_forms.specs.Kept.{kept_in, made_of};
+ghost use Rattle.std.specs.Prelude.{◌≡◌, ◌≤◌, ℕ, true, false, Some, None, MatchOption, OnErr, OnOk};
+ghost use Rattle.indexmap.specs.IndexMap.{index_map_len};
 
 use indexmap::IndexMap;
 use std::alloc::{AllocError, Global};
 use std::sync::Arc;
 use template_def::Definition;
+
+/// The most forms that are kept of a session.
+const MOST_FORMS: usize = 1024;
 
 /// A definition, and what was made of it.
 #[derive(Drop)]
@@ -24,14 +27,16 @@ impl<T> Form<T> {
     }
 }
 
-/// The forms of a session, by the numbers of its templates.
+/// The forms of a session, by the numbers of its templates. Which of their definitions are still valid is not known here, so
+/// there are few: where one more comes than may be kept, all others go, and are made anew as they are asked for.
 #[derive(Drop)]
 pub(crate) struct SessionForms<T> {
     rows: IndexMap<u64, Form<T>>,
+    ghost few: { index_map_len rows ≤ 1024 },
 }
 
 impl<T: Drop> SessionForms<T> {
-    ghost use Rattle.wire_spec.specs.Content.{Definition as Defined};
+    ghost use Rattle.kept_forms.specs.Kept.{kept_in, made_of, KeepsIn, LetsGoIn};
 
     /// None. It takes no memory.
     pub fn new(alloc: Global) -> SessionForms<T>
@@ -54,11 +59,14 @@ impl<T: Drop> SessionForms<T> {
         }
     }
 
-    /// Keeps a form, in place of the one before it. Where memory is wanted nothing changes.
+    /// Keeps a form, in place of the one before it.
     pub fn keep(&mut self, template: u64, form: Form<T>) -> Result<(), AllocError>
-        ensures ok { OnOk result ((t : ℕ) → kept_in self.new t ≡ (if nat_eq template t then Some (made_of form) else kept_in self.old t)) }
-        ensures err { OnErr result ((t : ℕ) → kept_in self.new t ≡ kept_in self.old t) }
+        ensures ok { OnOk result (KeepsIn template (made_of form) self.old self.new) }
+        ensures err { OnErr result (LetsGoIn self.old self.new) }
     {
+        if self.rows.len() >= MOST_FORMS {
+            self.rows.clear();
+        }
         self.rows.insert(template, form)?;
         Ok(())
     }

@@ -67,8 +67,10 @@ fn place_members(members: &[HotMember], rec: &[u8], text: &mut [u8], at: usize) 
     end
 }
 
-/// Puts the line of a record behind a place.
-#[inline(always)]
+/// Puts the line of a record behind a place. It isn't inlined, so that all that put lines share the one loop, and the values
+/// are inlined in it: in a program with several such loops LLVM would call them out of line, which costs each member more than
+/// this call costs a record.
+#[inline(never)]
 pub fn place_hot(line: &HotLine, rec: &[u8], text: &mut [u8], at: usize) -> usize
     requires inside { list_all (is_inside (length rec.now)) line.now.members.items ≡ true }
     requires room { at + (84 * length line.now.members.items + 64) ≤ length text.old }
