@@ -46,7 +46,7 @@ class Failing:
         for fail in fails:
             call, taken = map(int, fail.split(":"))
             self.fails.setdefault(call, taken)
-        self.calls, self.octets, self.failed = 0, b"", False
+        self.calls, self.octets, self.failed = 0, bytearray(), False
 
     def write(self, piece):
         """Whether it was taken whole. Nothing is written behind a fault."""
