@@ -2,6 +2,7 @@
 use Rattle.std.proofs.Common.{◌≡◌, ℕ, max, List, [], ◌++◌, Option, refl, ap, sym, subst, ◌∙◌, arith, inr}
 use Rattle.std.specs.Prelude.{Result, map}
 use Rattle.arrival_spec.specs.declared.event.Scripted.{Scripted}
+use Rattle.config_spec.specs.declared.conf.Conf.{Conf}
 use Rattle.text_spec.specs.Builtin.{builtin_rows}
 use Rattle.site_io.specs.declared.outside.OutsideFault.{OutsideFault}
 use Rattle.site_io.specs.Seen.{Seen}
@@ -27,13 +28,19 @@ module _ {S : Type 0} (left : S → Option (List Scripted)) (faults : S → ℕ)
   load_lines load k = λ i. lines_told load_conf builtin_rows k.run load.ended k.tells i ++ lines_by octets_line (outputs_named load_conf.outputs i) load.lengths.items
 
   -- it ran
-  pub calls_loaded : (load : Load) → CameToLoad number count load → ((said : Result (Unit {0}) OutsideFault) × Says a c (load_text load_conf load.ended load.lengths.items) said × (status ≡ max (ended_code load.ended) (said_code said)))
+  calls_loaded : (load : Load) → CameToLoad number count load → ((said : Result (Unit {0}) OutsideFault) × Says a c (load_text load_conf load.ended load.lengths.items) said × (status ≡ max (ended_code load.ended) (said_code said)))
       → Calls left faults (Generate number count) a c status
   calls_loaded load k s =
       calls_said left faults (MayCome (Generate number count)) (Generated number count) (Loaded k.run load.lengths.items) a a c s.0 status refl
       (record { texts = λ p. unread (a.text p); places = λ p. still (a.place p); sinks = λ p. unsunk (a.sink p); leaves = k.leaves }) refl
       (subst (λ (text : List ℕ). Says a c text s.0) (load_lines load k) s.1)
       (s.2 ∙ ap (λ n. max n (said_code s.0)) (code_told load_conf k.run load.ended k.tells))
+
+  -- and it was told by its description and its lengths
+  pub calls_reported : (conf : Conf) (counts : List ℕ) (load : Load) → conf ≡ load_conf → counts ≡ load.lengths.items → CameToLoad number count load
+      → ((said : Result (Unit {0}) OutsideFault) × Says a c (load_text conf load.ended counts) said × (status ≡ max (ended_code load.ended) (said_code said))) → Calls left faults (Generate number count) a c status
+  calls_reported conf counts load is are k s =
+      calls_loaded load k (s.0, subst (λ (x : Conf). Says a c (load_text x load.ended load.lengths.items) s.0) is (subst (λ (l : List ℕ). Says a c (load_text conf load.ended l) s.0) are s.1), s.2)
 
   -- memory was wanted before that
   pub calls_unrun : ReportsRefusal no_parties NoMemory a c status → Calls left faults (Generate number count) a c status

@@ -22,7 +22,7 @@ unfolding read_ipv4 read_octet read_number read_ipv6 read_segments read_segment 
 load_described = refl
 
 -- a text stands for one description
-abbrev accepted : Conf → Result Conf ConfFault
+abbrev pub accepted : Conf → Result Conf ConfFault
 accepted x = Ok x
 
 pub accepted_once : (x y : Conf) → accepted x ≡ accepted y → x ≡ y

@@ -1,10 +1,11 @@
 -- What generated load comes to.
-use Rattle.std.proofs.Common.{◌≡◌, inl, inr, ℕ, suc, ◌+◌, ◌^◌, ◌-◌, Bool, true, false, List, [], ◌∷◌, ◌++◌, Option, Some, None, length, map, refl, ap, sym, subst, ◌∙◌, arith, append_assoc}
-use Rattle.std.specs.Prelude.{All, is_some, nat_lt, option_to_list, slice_get}
+use Rattle.std.proofs.Common.{◌≡◌, inl, inr, ℕ, suc, ◌+◌, ◌^◌, ◌-◌, ◌≤◌, Bool, true, false, List, [], ◌∷◌, ◌++◌, Option, Some, None, length, map, refl, ap, sym, subst, ◌∙◌, arith, append_assoc}
+use Rattle.std.specs.Prelude.{is_some, nat_lt, option_to_list, slice_get, vec_capacity}
 use Rattle.std.specs.List.{AllByRecursion, list_all}
 use Rattle.std.proofs.lemmas.Bool.{and_parts}
 use Rattle.std.proofs.lemmas.List.{length-append, length-map}
 use Rattle.arrival_spec.specs.declared.event.Scripted.{Scripted}
+use Rattle.config_spec.specs.declared.conf.Conf.{Conf}
 use Rattle.config_spec.specs.declared.conf.InputConf.{InputConf}
 use Rattle.config_spec.specs.declared.conf.OutputConf.{OutputConf}
 use Rattle.config_spec.specs.declared.conf.StageConf.{StageConf}
@@ -41,8 +42,14 @@ use Rattle.run_came.specs.Told.{IsNoted, TellsRun}
 use Rattle.run_came.proofs.HandedLemmas as handed
 use Rattle.run_came.proofs.OutputLemmas.{OutputCame, all_outputs, located}
 use Rattle.run_came.proofs.SinkLemmas.{no_log}
-use Rattle.generate_call.specs.Ran.{CameToLoad, total_of}
-use Rattle.generate_call.specs.declared.load.Load.{Load}
+use Rattle.run_inputs.specs.Made.{AreMade}
+use Rattle.output_texts.specs.declared.texts.OutputTexts.{OutputTexts}
+use Rattle.output_texts.specs.Texts.{Stands}
+use Rattle.described_run.specs.declared.taker.Ready.{Ready}
+use Rattle.collect_call.specs.declared.prepare.Prepared.{Prepared}
+use Rattle.collect_call.specs.Runs.{IsPrepared}
+use Rattle.collect_call.specs.Runs.{AreMade as AreMakers}
+use Rattle.generate_call.specs.Ran.{IsOver, total_of}
 
 -- what a source of load has left, and what a sink that keeps the number of octets alone tells
 abbrev pub left : LoadSource → Option (List Scripted)
@@ -67,7 +74,13 @@ sound_of f e = sym e
 
 -- a sink that was given nothing, and then a text
 counts_text : (first sink : TallySink) (text : List ℕ) → first.total ≡ 0 → TookAll held total own_faults text first sink → sink.total ≡ standing (length text)
-counts_text first sink text none t = let g : Some sink.total ≡ Some (standing (length text)) = t.1 0 (omega arith) (ap Some none) in cc
+counts_text first sink text none t =
+    let none_before : 0 + length text ≡ length text = omega arith in
+    let g : Some sink.total ≡ Some (standing (length text)) = subst (λ n. Some sink.total ≡ Some (standing n)) none_before (t.1 0 (omega arith) (ap Some none)) in
+    cc
+
+same_source : (x y : LoadSource) → x ∷ [] ≡ y ∷ [] → x ≡ y
+same_source x y e = cc
 
 -- one sink more
 pub one_more_fresh : (sinks : List TallySink) (k : TallySink) → AllByRecursion (λ x. total_of x ≡ 0) sinks → k.total ≡ 0 → AllByRecursion (λ x. total_of x ≡ 0) (sinks ++ k ∷ [])
@@ -139,7 +152,7 @@ module _ {T : Type 0} (stands : OutputConf → List Element → List Item → T 
       → Each (InputCameTo left load_faults (inputs_of load_conf) entries) 0 pairs xs → Each (GaveLoad number count) 0 (input_party i ∷ []) (map (λ (p : LoadSource × InputCame). p.1) pairs)
   gave_all entries i [] xs ended are e = absurd cc
   gave_all entries i (p ∷ []) [] ended are e = absurd e
-  gave_all entries i (p ∷ []) (x ∷ xs) ended are e = let both = and_parts (is_some x.end) (list_all (λ (y : Input LoadSource). is_some y.end) xs) ended in (gave_one entries 0 i p x both.0 cc e.0, tt)
+  gave_all entries i (p ∷ []) (x ∷ xs) ended are e = let both = and_parts (is_some x.end) (list_all (λ (y : Input LoadSource). is_some y.end) xs) ended in (gave_one entries 0 i p x both.0 (same_source p.0 source are) e.0, tt)
   gave_all entries i (p ∷ q ∷ pairs) xs ended are e = absurd (let l = ap length are in omega (arith, l))
 
   gave : Each (GaveLoad number count) 0 (map input_party load_conf.inputs) run.inputs
@@ -223,3 +236,28 @@ module _ {T : Type 0} (stands : OutputConf → List Element → List Item → T 
         subst (λ (l : List ℕ). LoadLeaves number count run l) (sym same) (leaves noted),
         ap length same ∙ (length-map (output_sinks nows) total_of ∙ (length-map nows (λ (o : Output T TallySink). o.sink) ∙ outputs_long)),
       )
+
+-- what a prepared run begins with
+module _ (number count : ℕ) (conf : Conf) (is : conf ≡ load_conf) (prepared : Prepared) (p : IsPrepared load_conf builtin_rows prepared) where
+  pub makers_long : length prepared.texts.items ≡ length load_conf.outputs
+  makers_long = sym (same_length (λ _ output t. Stands output builtin_rows [] t) 0 load_conf.outputs prepared.texts.items p.makes)
+
+  pub inputs_are : (sources : List LoadSource) (source : LoadSource) → sources ≡ source ∷ [] → length sources ≡ length conf.inputs
+  inputs_are sources source are = ap length are ∙ (sym (ap length one_input.1) ∙ ap (λ (c : Conf). length c.inputs) (sym is))
+
+  pub is_over : (sources : List LoadSource) (s : (x : LoadSource) × (sources ≡ x ∷ []) × (load_left x ≡ load_events number count)) (sinks : List TallySink) (xs : List (Input LoadSource)) (ready : Ready OutputTexts TallySink)
+      → length sinks ≡ length conf.outputs → AllByRecursion (λ k. total_of k ≡ 0) sinks → AreMade left load_faults conf sources xs → ready.stages ≡ prepared.stages → ready.texts.items ≡ prepared.texts.items → ready.room.items ≡ [] → length prepared.texts.items ≤ vec_capacity ready.room → IsOver number count xs sinks ready
+  is_over sources s sinks xs ready long fresh made stages texts empty rooms = record {
+    source = s.0;
+    events = s.2;
+    made = subst (λ (c : Conf). AreMade left load_faults c (s.0 ∷ []) xs) is (subst (λ (l : List LoadSource). AreMade left load_faults conf l xs) s.1 made);
+    long = long ∙ ap (λ (c : Conf). length c.outputs) is;
+    fresh = fresh;
+    ready_for = record {
+      works = stages ∙ p.works;
+      makers = ap length texts ∙ makers_long;
+      empty = empty;
+      room = subst (λ (l : List OutputTexts). length l ≤ vec_capacity ready.room) (sym texts) rooms;
+    };
+    makers = subst (λ (l : List OutputTexts). AreMakers builtin_rows load_conf.outputs l) (sym texts) p.makes;
+  }

@@ -16,19 +16,19 @@ pub hand_on-taker-requires-clause-right : goal.hand_on-taker-requires-clause-rig
 hand_on-taker-requires-clause-right g c κs within = let o = c.requires.over.2 in all_right left load_faults load_conf (o.source ∷ []) c.args.inputs.now.items o.made
 
 pub note_all-requires-clause-inputs : goal.note_all-requires-clause-inputs
-note_all-requires-clause-inputs g c κs within =
+note_all-requires-clause-inputs g c κs =
     let o = c.requires.over.2 in
     c.requires.room.inputs ∙ (sym (inputs_long Stands c.requires.over.0 c.requires.over.1 c.args.ready.texts.items o.source c.args.sinks.now.items c.hand_on-taker.new.inputs.items c.hand_on-taker.result c.args.load.now.ended o.events o.long o.fresh o.makers
     (c.hand_on-taker.ensures.handed load_conf (o.source ∷ []) o.ready_for o.made)) ∙ ap length (sym c.deref.ensures.value))
 
 pub note_all-requires-clause-outputs : goal.note_all-requires-clause-outputs
-note_all-requires-clause-outputs g c κs within =
+note_all-requires-clause-outputs g c κs =
     let o = c.requires.over.2 in
     c.requires.room.outputs ∙ sym (outputs_long Stands c.requires.over.0 c.requires.over.1 c.args.ready.texts.items o.source c.args.sinks.now.items c.hand_on-taker.new.inputs.items c.hand_on-taker.result c.args.load.now.ended o.events o.long o.fresh o.makers
     (c.hand_on-taker.ensures.handed load_conf (o.source ∷ []) o.ready_for o.made))
 
 pub end-requires-clause-room : goal.end-requires-clause-room
-end-requires-clause-room g c κs within =
+end-requires-clause-room g c κs =
     let o = c.requires.over.2 in
     let many = sinks_long Stands c.requires.over.0 c.requires.over.1 c.args.ready.texts.items o.source c.args.sinks.now.items c.hand_on-taker.new.inputs.items c.hand_on-taker.result c.args.load.now.ended o.events o.long o.fresh o.makers
     (c.hand_on-taker.ensures.handed load_conf (o.source ∷ []) o.ready_for o.made) in
@@ -36,7 +36,7 @@ end-requires-clause-room g c κs within =
     omega (arith, many, few, c.hand_on-taker.ensures.room)
 
 pub note_lengths-requires : goal.note_lengths-requires
-note_lengths-requires g c κs within =
+note_lengths-requires g c =
     let o = c.requires.over.2 in
     c.requires.room.lengths ∙ (sym (sinks_long Stands c.requires.over.0 c.requires.over.1 c.args.ready.texts.items o.source c.args.sinks.now.items c.hand_on-taker.new.inputs.items c.hand_on-taker.result c.args.load.now.ended o.events o.long o.fresh o.makers
     (c.hand_on-taker.ensures.handed load_conf (o.source ∷ []) o.ready_for o.made)) ∙ (ap length (sym c.end.ensures) ∙ ap length (sym c.deref-2.ensures.value)))
