@@ -80,11 +80,9 @@ class Input:
         if self.transport == "udp" or connection not in self.sessions:
             return self.count("stray")
         session = self.sessions[connection]
-        before = len(cut(session.octets)[0])
-        session.octets += octets
-        messages, rest = cut(session.octets)
-        arrivals = [self.raw(session, message) for message in messages[before:]]
-        if is_bad(rest):
+        messages, session.octets = cut(session.octets + octets)
+        arrivals = [self.raw(session, message) for message in messages]
+        if is_bad(session.octets):
             self.count("broken")
             self.dead.add(connection)
             arrivals += self.closing(connection)

@@ -1,7 +1,7 @@
 """A second reader of IPFIX Files that outputs write, apart from the program and slowly, from RFC 7011, RFC 5655 and
 docs/FORMATS.md ("IPFIX Files out").
 
-All records that were written are kept, and the numbers of definitions are looked up in them afresh for each message.
+The definitions of a domain are kept in the order of their numbers, and looked through for each set.
 """
 
 from exporters import NUMBERS, one_message, one_set, written
@@ -14,33 +14,25 @@ class AtLimit(Exception):
 
 
 class File:
-    """What was written of each domain: the definitions with their records, set by set, in order."""
+    """What was written of each domain: its definitions in the order of their first use, and how many records."""
 
     def __init__(self, last):
         self.last = last
-        self.sets = {}
-
-    def definitions(self, domain):
-        """The definitions of a domain, in the order of their numbers, which is that of their first use."""
-        found = []
-        for definition, _ in self.sets.get(domain, []):
-            if definition not in found:
-                found.append(definition)
-        return found
-
-    def sequence(self, domain):
-        """How many records were written in a domain."""
-        return sum(len(records) for _, records in self.sets.get(domain, [])) % NUMBERS
+        self.definitions, self.records = {}, {}
 
     def take(self, domain, export, sets):
         """The octets of a message with sets, each a definition and its records. At the limit it isn't taken."""
-        sequence, before = self.sequence(domain), self.definitions(domain)
-        kept = self.sets.get(domain, [])
-        self.sets[domain] = kept + sets
-        known = self.definitions(domain)
+        before = self.definitions.get(domain, [])
+        known = list(before)
+        for definition, _ in sets:
+            if definition not in known:
+                known.append(definition)
         if FIRST + len(known) - 1 > self.last:
-            self.sets[domain] = kept
             raise AtLimit
+        self.definitions[domain] = known
+        count = self.records.get(domain, 0)
+        self.records[domain] = count + sum(len(records) for _, records in sets)
+        sequence = count % NUMBERS
         ids = [(FIRST + place, definition) for place, definition in enumerate(known)]
         octets = b""
         for id, definition in ids[len(before) :]:
