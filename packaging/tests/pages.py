@@ -191,7 +191,7 @@ with open(os.path.join(TOP, "packaging/man/ipfixcol.1"), encoding="utf-8") as fi
 lines, counts = [items for heading, items in lists if heading == "DIAGNOSTICS"]
 compare_sets("counts", fault_words(counts), [word.strip() for word in re.findall(r'b"(\w+) "', code("run_lines/src/count_row.rt"))])
 heads = {re.sub(r" ?: Ar .*| Ar .*", "", word) for line, _ in lines for word in line.split(" , Sy ")}
-printed = {word.rstrip(": ") for word in re.findall(r'=> b"([a-z ]+(?:: )?)(?:\\n)?"', code("run_lines/src/saying.rt"))}
+printed = {word.rstrip(": ") for word in re.findall(r'=> b"([a-z][a-z ]+(?:: )?)(?:\\n)?"', code("run_lines/src/saying.rt"))}
 compare_sets("lines", heads, printed)
 print("the pages are as the code is" if not wrong else f"{wrong} differences")
 sys.exit(wrong > 0)
