@@ -14,6 +14,9 @@ use std::collections::BTreeMap;
 use std::sync::Arc;
 use template_def::Definition;
 
+/// The most forms that are kept of a session.
+const MOST_FORMS: usize = 1024;
+
 /// A definition, and the prepared lines of its records.
 #[derive(Drop)]
 struct Form {
@@ -57,6 +60,7 @@ impl Form {
 
 /// The forms of the definitions of a session whose records came. A form is found by the domain and the Template ID of a
 /// set, and made anew where the definition is another one: so it is prepared once a definition, and looked up once a set.
+/// A template that is withdrawn isn't told here, so there are few: where one more comes than may be kept, all others go.
 #[derive(Drop)]
 pub struct Forms {
     rows: BTreeMap<u64, Form>,
@@ -92,6 +96,9 @@ impl Forms {
         }
         let form = Form::new(alloc, &elements.table, definition)?;
         form.put(body, lines)?;
+        if self.rows.len() >= MOST_FORMS {
+            self.rows.clear();
+        }
         self.rows.insert(key, form)?;
         Ok(())
     }

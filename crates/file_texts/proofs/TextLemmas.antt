@@ -1,7 +1,7 @@
 -- What a message adds to the text of an output of IPFIX Files.
-use Rattle.std.proofs.Common.{◌≡◌, ℕ, ◌<◌, ◌≤◌, Bool, true, false, cond, max, List, [], ◌∷◌, ◌++◌, Some, None, length, map, filter, refl, ap, sym, subst, ◌∙◌, append-nil, arith}
-use Rattle.std.specs.Prelude.{◌==◌, ◌%◌, ◌^◌, find, flat_map, fold, nat_lt, sum_by}
-use Rattle.std.proofs.lemmas.Bool.{eqb-true, ltb-true, ltb-false}
+use Rattle.std.proofs.Common.{◌≡◌, ℕ, ◌<◌, ◌≤◌, Bool, true, false, cond, max, List, [], ◌∷◌, ◌++◌, Some, None, filter, refl, ap, sym, subst, ◌∙◌, append-nil, arith}
+use Rattle.std.specs.Prelude.{◌%◌, ◌^◌, find, flat_map, fold, nat_lt, sum_by}
+use Rattle.std.proofs.lemmas.Bool.{ltb-true, ltb-false}
 use Rattle.std.proofs.lemmas.List.Elements.{filter-append}
 use Rattle.std.proofs.lemmas.List.Sums.{sum_by-append}
 use Rattle.std.proofs.lemmas.Grind.{flat_map-append}
@@ -9,20 +9,20 @@ use Rattle.config_spec.specs.declared.conf.OutputConf.{OutputConf}
 use Rattle.config_spec.specs.declared.conf.OutputKind.{OutputKind}
 use Rattle.config_spec.specs.declared.conf.OutputKind.TheVariants.{Ipfix}
 use Rattle.config_spec.specs.declared.domains.DomainSet.{DomainSet}
-use Rattle.config_spec.specs.Domains.{has_domain}
 use Rattle.run_spec.specs.Work.{Item}
-use Rattle.run_spec.specs.Work.Item.{Note, Tick, Data}
+use Rattle.run_spec.specs.Work.Item.{Note, Tick}
 use Rattle.file_spec.specs.File.{definitions_of, definitions_used, file_needs, file_octets, needed_by, octets_after, records_written, sequence_of, with_definition}
 use Rattle.file_spec.proofs.MoreLemmas.{one_more_octets}
 use Rattle.file_spec.proofs.NeedLemmas.{needs_more}
 use Rattle.text_spec.specs.declared.element.Element.{Element}
 use Rattle.result_spec.specs.Result.{Exceeds, text_by}
 use Rattle.result_spec.specs.Through.{is_for}
-use Rattle.pipeline_message.specs.declared.message.DataSet.{DataSet}
 use Rattle.pipeline_message.specs.declared.message.DataMessage.{DataMessage}
 use Rattle.pipeline_message.specs.declared.message.SessionNote.{SessionNote}
 use Rattle.pipeline_message.specs.declared.message.Msg.{Msg}
-use Rattle.pipeline_message.specs.Items.{data_of, items_of, set_of}
+use Rattle.pipeline_message.specs.declared.message.Msg.TheVariants.{SessionMsg, DataMsg, Periodic, Terminate}
+use Rattle.pipeline_message.specs.Items.{data_of, items_of}
+use Rattle.output_manager.specs.Goes.{goes_to}
 use Rattle.message_texts.specs.declared.texts.TextFault.{TextFault}
 use Rattle.message_texts.specs.declared.texts.TextFault.TheVariants as fault
 use Rattle.message_texts.specs.Puts.{items_at, MeetsLimit, PutTo}
@@ -140,34 +140,20 @@ tick_comes input seconds = silent_comes (Tick input seconds) (tick_is_silent inp
 
 -- ---- a message with records
 
--- a message without sets doesn't come
-pub none_without : (output : OutputConf) (m : DataMessage) → (length m.sets.items == 0) ≡ true → items_at output (data_of m ∷ []) ≡ []
-none_without output m e = by_sets m.sets.items e
-  where
-    by_sets : (sets : List DataSet) → (length sets == 0) ≡ true → filter (is_for output.domains) (Data m.session m.domain m.export m.seq (map (set_of m.octets.value) sets) ∷ []) ≡ []
-    by_sets [] e = refl
-    by_sets (s ∷ sets) e = absurd (let none = eqb-true (length (s ∷ sets)) 0 e in omega (arith, none))
+-- a message comes where it goes to the output
+pub data_by : (domains : DomainSet) (m : DataMessage) (b : Bool) → is_for domains (data_of m) ≡ b → filter (is_for domains) (data_of m ∷ []) ≡ cond b (data_of m ∷ []) []
+data_by domains m b e = ap (λ x. cond x (data_of m ∷ []) []) e
 
--- nor does one of another domain
-pub none_elsewhere : (output : OutputConf) (m : DataMessage) → has_domain output.domains m.domain ≡ false → items_at output (data_of m ∷ []) ≡ []
-none_elsewhere output m e = by_sets m.sets.items
-  where
-    by_sets : (sets : List DataSet) → filter (is_for output.domains) (Data m.session m.domain m.export m.seq (map (set_of m.octets.value) sets) ∷ []) ≡ []
-    by_sets [] = refl
-    by_sets (s ∷ sets) = ap (λ b. cond b (Data m.session m.domain m.export m.seq (map (set_of m.octets.value) (s ∷ sets)) ∷ []) []) e
+-- and one that doesn't go to it has no item of the output
+pub none_elsewhere : (output : OutputConf) (message : Msg) → goes_to output.domains message ≡ false → items_at output (items_of (message ∷ [])) ≡ []
+none_elsewhere output (SessionMsg note) e = absurd cc
+none_elsewhere output (DataMsg m) e = data_by output.domains m.value false e
+none_elsewhere output (Periodic input seconds) e = absurd cc
+none_elsewhere output Terminate e = refl
 
--- any other does
-one_comes : (domains : DomainSet) (m : DataMessage) → (length m.sets.items == 0) ≡ false → has_domain domains m.domain ≡ true → filter (is_for domains) (data_of m ∷ []) ≡ data_of m ∷ []
-one_comes domains m some e = by_sets m.sets.items some
-  where
-    by_sets : (sets : List DataSet) → (length sets == 0) ≡ false
-        → filter (is_for domains) (Data m.session m.domain m.export m.seq (map (set_of m.octets.value) sets) ∷ []) ≡ Data m.session m.domain m.export m.seq (map (set_of m.octets.value) sets) ∷ []
-    by_sets [] some = absurd cc
-    by_sets (s ∷ sets) some = ap (λ b. cond b (Data m.session m.domain m.export m.seq (map (set_of m.octets.value) (s ∷ sets)) ∷ []) []) e
-
-module _ (m : DataMessage) (old : FileTexts) (some : (length m.sets.items == 0) ≡ false) (e : has_domain old.domains m.domain ≡ true) where
+module _ (m : DataMessage) (old : FileTexts) (e : is_for old.domains (data_of m) ≡ true) where
   comes_to : (output : OutputConf) (items : List Item) → Stands output items old → items_at output (data_of m ∷ []) ≡ data_of m ∷ []
-  comes_to output items s = subst (λ (d : DomainSet). filter (is_for d) (data_of m ∷ []) ≡ data_of m ∷ []) s.domains (one_comes old.domains m some e)
+  comes_to output items s = subst (λ (d : DomainSet). filter (is_for d) (data_of m ∷ []) ≡ data_of m ∷ []) s.domains (data_by old.domains m true e)
 
   pub data_comes : (new : FileTexts) → old.text ≡ [] → new.domains ≡ old.domains → new.numbering.last ≡ old.numbering.last
       → ((items : List Item) → StandsFor items old.numbering → IsPut old.numbering.last items (data_of m) new.numbering old.text new.text) → Grows (data_of m ∷ []) old new

@@ -1,5 +1,6 @@
 // The messages of a file that each message of a run adds.
-ghost use Rattle.std.specs.Prelude.{◌≡◌, ◌∷◌, [], IfErr, IfOk, OnErr, OnOk};
+ghost use Rattle.std.specs.Prelude.{◌≡◌, ◌∷◌, [], true, IfErr, IfOk, OnErr, OnOk};
+ghost use Rattle.result_spec.specs.Through.{is_for};
 ghost use Rattle.pipeline_message.specs.Items.{IsSound, IsSoundMessage, data_of, items_of};
 
 use crate::placed::sets_of;
@@ -7,6 +8,7 @@ use col_base::Octets;
 use config_spec::{DomainSet, OutputConf, OutputKind};
 use file_output::{FileFault, Numbering};
 use message_texts::{MessageTexts, TextFault};
+use output_manager::goes;
 use pipeline_message::{DataMessage, Msg};
 use std::alloc::{AllocError, Global};
 
@@ -39,17 +41,15 @@ impl FileTexts {
         }))
     }
 
-    /// Makes the messages of a file for a message with sets, if it is of the output's domains.
+    /// Makes the messages of a file for a message that goes to the output.
     fn put_data(&mut self, message: &DataMessage) -> Result<(), TextFault>
         requires empty { self.old.text ≡ [] }
         requires sound { IsSound message.now }
+        requires comes { is_for self.old.domains (data_of message.now) ≡ true }
         ensures ok { OnOk result (Grows (data_of message.now ∷ []) self.old self.new) }
         ensures err { OnErr result (Stays self.old self.new) }
         ensures limit { IfErr result (NeedsMore (data_of message.now ∷ []) self.old) }
     {
-        if message.sets.is_empty() || !self.domains.has(message.domain) {
-            return Ok(());
-        }
         let Some(sets) = sets_of(self.alloc, message) else {
             return Err(TextFault::NoMemory);
         };
@@ -63,7 +63,7 @@ impl FileTexts {
         }
     }
 
-    /// Makes the messages of a file for a message. Notes of sessions, seconds, and messages without sets or of another domain
+    /// Makes the messages of a file for a message. Notes of sessions, seconds, and messages that don't go to the output
     /// add none.
     fn put_message(&mut self, message: &Msg) -> Result<(), TextFault>
         requires { IsSoundMessage message.now }
@@ -72,6 +72,9 @@ impl FileTexts {
         ensures limit { IfErr result (NeedsMore (items_of (message.now ∷ [])) self.old) }
     {
         self.text.clear();
+        if !goes(&self.domains, message) {
+            return Ok(());
+        }
         match message {
             Msg::DataMsg(message) => match self.put_data(message) {
                 Ok(()) => Ok(()),

@@ -1,6 +1,6 @@
 -- What is kept of the definitions of all sessions.
-use Rattle.std.specs.Prelude.{◌≡◌, ◌⊎◌, ℕ, Bool, true, false, ◌+◌, ◌*◌, ◌^◌, if◌then◌else◌, Option, None, Some, option_map, nat_eq}
-use Rattle.indexmap.specs.IndexMap.{get}
+use Rattle.std.specs.Prelude.{◌≡◌, ◌<◌, ◌⊎◌, ℕ, Bool, true, false, ◌+◌, ◌*◌, ◌^◌, if◌then◌else◌, Option, None, Some, option_map, nat_eq}
+use Rattle.indexmap.specs.IndexMap.{get, index_map_len}
 use Rattle.col_base.specs.declared.base.SessionKey.{SessionKey}
 use Rattle.wire_spec.specs.Content.{Definition}
 use Rattle.kept_forms.specs.declared.session.Form.{Form}
@@ -30,6 +30,14 @@ module _ {T : Type 0} where
   abbrev pub kept : KeptForms T → ℕ → ℕ → Option (Definition × T)
   kept forms session template = kept_of (get nat_eq forms.sessions session) template
 
+  -- how many forms are kept of a session
+  abbrev pub count_of : Option (SessionForms T) → ℕ
+  count_of None = 0
+  count_of (Some forms) = index_map_len forms.rows
+
+  abbrev pub number_kept : KeptForms T → ℕ → ℕ
+  number_kept forms session = count_of (get nat_eq forms.sessions session)
+
   -- a form is what it was, or was let go
   abbrev pub StaysOrGoes : Option (Definition × T) → Option (Definition × T) → Type 0
   StaysOrGoes old new = (new ≡ old) ⊎ (new ≡ None)
@@ -54,6 +62,13 @@ module _ {T : Type 0} where
   pub record LetsGo (session : ℕ) (old new : KeptForms T) : Type 0 where
     pub its : (t : ℕ) → StaysOrGoes (kept old session t) (kept new session t)
     pub others : (s t : ℕ) → nat_eq session s ≡ false → kept new s t ≡ kept old s t
+
+  -- Where fewer than 1,024 forms are kept, none but that of this template goes.
+  abbrev pub SpareIn : ℕ → SessionForms T → SessionForms T → Type 0
+  SpareIn template old new = index_map_len old.rows < 1024 → (t : ℕ) → nat_eq template t ≡ false → kept_in new t ≡ kept_in old t
+
+  abbrev pub Spares : ℕ → ℕ → KeptForms T → KeptForms T → Type 0
+  Spares session template old new = number_kept old session < 1024 → (t : ℕ) → nat_eq template t ≡ false → kept new session t ≡ kept old session t
 
   -- nothing is kept of a session now, and all else is as it was
   abbrev pub Forgets : ℕ → KeptForms T → KeptForms T → Type 0

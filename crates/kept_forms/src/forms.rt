@@ -1,6 +1,6 @@
 // The forms of all sessions.
-ghost use Rattle.std.specs.Prelude.{◌≡◌, ℕ, None, Some, MatchOption, OnErr, OnOk};
-ghost use Rattle.kept_forms.specs.Kept.{kept, session_number, template_number, Forgets, Keeps, LetsGo};
+ghost use Rattle.std.specs.Prelude.{◌≡◌, ◌≤◌, ◌+◌, ℕ, false, nat_eq, None, Some, MatchOption, OnErr, OnOk};
+ghost use Rattle.kept_forms.specs.Kept.{kept, number_kept, session_number, template_number, Forgets, Keeps, LetsGo, Spares};
 
 use crate::numbers::{session_number, template_number};
 use crate::session::{Form, SessionForms};
@@ -20,7 +20,8 @@ pub struct KeptForms<T> {
 impl<T: Drop> KeptForms<T> {
     /// Nothing. It takes no memory.
     pub fn new(alloc: Global) -> KeptForms<T>
-        ensures { (session template : ℕ) → kept result session template ≡ None }
+        ensures none { (session template : ℕ) → kept result session template ≡ None }
+        ensures count { (session : ℕ) → number_kept result session ≡ 0 }
     {
         KeptForms {
             alloc,
@@ -43,8 +44,8 @@ impl<T: Drop> KeptForms<T> {
         forms.find(template_number(domain, template), definition)
     }
 
-    /// Keeps what was made of the definition of a Template ID, in place of what was made of the one before it. Where more is
-    /// kept of the session than may be, all else of it is let go.
+    /// Keeps what was made of the definition of a Template ID, in place of what was made of the one before it. Where 1,024
+    /// forms of the session are kept, all others of it may be let go; where fewer are, none is.
     pub fn keep(
         &mut self,
         session: SessionKey,
@@ -55,6 +56,9 @@ impl<T: Drop> KeptForms<T> {
     ) -> Result<(), AllocError>
         ensures ok { OnOk result (Keeps (session_number session) (template_number domain template) definition.now.value made self.old self.new) }
         ensures err { OnErr result (LetsGo (session_number session) self.old self.new) }
+        ensures few { Spares (session_number session) (template_number domain template) self.old self.new }
+        ensures count { number_kept self.new (session_number session) ≤ number_kept self.old (session_number session) + 1 }
+        ensures counts { (other : ℕ) → nat_eq (session_number session) other ≡ false → number_kept self.new other ≡ number_kept self.old other }
     {
         let form = Form {
             definition: definition.clone()?,
@@ -73,7 +77,9 @@ impl<T: Drop> KeptForms<T> {
 
     /// Lets go what is kept of a session.
     pub fn close(&mut self, session: SessionKey)
-        ensures { Forgets (session_number session) self.old self.new }
+        ensures forgets { Forgets (session_number session) self.old self.new }
+        ensures count { number_kept self.new (session_number session) ≡ 0 }
+        ensures counts { (other : ℕ) → nat_eq (session_number session) other ≡ false → number_kept self.new other ≡ number_kept self.old other }
     {
         let _forms = self.sessions.swap_remove(&session_number(session));
     }

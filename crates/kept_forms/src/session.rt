@@ -1,5 +1,5 @@
 // The forms of one session.
-ghost use Rattle.std.specs.Prelude.{◌≡◌, ◌≤◌, ℕ, true, false, Some, None, MatchOption, OnErr, OnOk};
+ghost use Rattle.std.specs.Prelude.{◌≡◌, ◌≤◌, ◌+◌, ℕ, true, false, Some, None, MatchOption, OnErr, OnOk};
 ghost use Rattle.indexmap.specs.IndexMap.{index_map_len};
 
 use indexmap::IndexMap;
@@ -36,11 +36,12 @@ pub(crate) struct SessionForms<T> {
 }
 
 impl<T: Drop> SessionForms<T> {
-    ghost use Rattle.kept_forms.specs.Kept.{kept_in, made_of, KeepsIn, LetsGoIn};
+    ghost use Rattle.kept_forms.specs.Kept.{kept_in, made_of, KeepsIn, LetsGoIn, SpareIn};
 
     /// None. It takes no memory.
     pub fn new(alloc: Global) -> SessionForms<T>
-        ensures { (t : ℕ) → kept_in result t ≡ None }
+        ensures none { (t : ℕ) → kept_in result t ≡ None }
+        ensures count { index_map_len result.rows ≡ 0 }
     {
         SessionForms {
             rows: IndexMap::new(alloc),
@@ -63,6 +64,8 @@ impl<T: Drop> SessionForms<T> {
     pub fn keep(&mut self, template: u64, form: Form<T>) -> Result<(), AllocError>
         ensures ok { OnOk result (KeepsIn template (made_of form) self.old self.new) }
         ensures err { OnErr result (LetsGoIn self.old self.new) }
+        ensures few { SpareIn template self.old self.new }
+        ensures count { index_map_len self.new.rows ≤ index_map_len self.old.rows + 1 }
     {
         if self.rows.len() >= MOST_FORMS {
             self.rows.clear();

@@ -4,11 +4,9 @@
 //! behind those before it. Contracts say of a maker that it stands for the items that were put (`stands`): the text of one
 //! message more is what an output's text over these items grows by. So a maker may keep numbers and forms of what came
 //! before, and the run knows nothing of them. The run of a description stands above; makers for each kind of output
-//! implement it, and ask by `comes_to` which messages come to theirs.
+//! implement it.
 #![tactic(auto)]
 
-mod domains;
 mod texts;
 
-pub use domains::{comes_to, copy_of};
 pub use texts::{MessageTexts, TextFault};

@@ -84,7 +84,7 @@ pub fn say_run<S: Site>(
     ensures { Says (S.seen site.old) (S.seen site.new) (run_text conf.now ended.now) result }
 {
     match say_faults(alloc, conf, ended, site) {
-        Ok(()) => say_summary(alloc, &ended.counts, site),
+        Ok(()) => say_summary(alloc, ended, site),
         Err(fault) => Err(fault),
     }
 }

@@ -5,9 +5,9 @@ ghost use Rattle.run_lines.specs.Rows.{meant_counts, row_of};
 ghost use Rattle.run_lines.specs.Says.{Says};
 
 use crate::count_row::{CountName, CountRow, row};
+use crate::ended::Ended;
 use crate::saying::{row_end, say};
 use col_base::Octets;
-use pipeline_message::RunCounts;
 use site_io::{OutsideFault, Site};
 use std::alloc::{AllocError, Global};
 
@@ -45,14 +45,11 @@ fn say_counts<S: Site>(alloc: Global, rows: &[CountRow], site: &mut S) -> Result
     Ok(())
 }
 
-/// Says the summary of a run, line by line. Snapshots of templates aren't opened yet.
-pub fn say_summary<S: Site>(
-    alloc: Global,
-    counts: &RunCounts,
-    site: &mut S,
-) -> Result<(), OutsideFault>
-    ensures { Says (S.seen site.old) (S.seen site.new) (summary_text (meant_counts counts.now)) result }
+/// Says the summary of a run, line by line, whatever came in it. Snapshots of templates aren't opened yet.
+pub fn say_summary<S: Site>(alloc: Global, ended: &Ended, site: &mut S) -> Result<(), OutsideFault>
+    ensures { Says (S.seen site.old) (S.seen site.new) (summary_text (meant_counts ended.now.counts)) result }
 {
+    let counts = ended.counts;
     let rows = [
         row(CountName::Sessions, counts.sessions),
         row(CountName::Messages, counts.messages),

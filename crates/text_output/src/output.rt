@@ -6,7 +6,8 @@ ghost use Rattle.pipeline_message.specs.Items.{IsSound, IsSoundMessage};
 use col_base::{Octets, WantOfMemory};
 use config_spec::{DomainSet, OutputConf};
 use element_table::Elements;
-use message_texts::{MessageTexts, TextFault, comes_to, copy_of};
+use message_texts::{MessageTexts, TextFault};
+use output_manager::goes;
 use pipeline_message::{DataMessage, Msg, SessionNote};
 use prepared_lines::Lines;
 use std::alloc::{AllocError, Global};
@@ -25,6 +26,17 @@ pub struct TextOutput {
     sets: Lines,
     /// The text of the message that was put last.
     text: Lines,
+}
+
+/// A copy of a set of domains.
+fn copy_of(domains: &DomainSet) -> Result<DomainSet, AllocError>
+    ensures { IfOk result (λ made. made ≡ domains.now) }
+{
+    match domains {
+        DomainSet::All => Ok(DomainSet::All),
+        DomainSet::Only(ranges) => Ok(DomainSet::Only(ranges.clone()?)),
+        DomainSet::Except(ranges) => Ok(DomainSet::Except(ranges.clone()?)),
+    }
 }
 
 /// Puts a line behind a text.
@@ -49,11 +61,9 @@ impl TextOutput {
         let Some(kind) = text_kind(output.kind) else {
             return Ok(None);
         };
-        let domains = copy_of(&output.domains)?;
-        let maker = Maker { kind, elements };
         Ok(Some(TextOutput {
-            domains,
-            forms: Forms::new(alloc, maker),
+            domains: copy_of(&output.domains)?,
+            forms: Forms::new(alloc, Maker { kind, elements }),
             line: Octets::new(alloc),
             sets: Lines::new(alloc),
             text: Lines::new(alloc),
@@ -165,29 +175,30 @@ impl TextOutput {
         self.put_listed(message, records)
     }
 
-    /// Makes the text of a message with records, if it comes to the output.
+    /// Makes the text of a message with sets.
     fn put_data(&mut self, message: &DataMessage) -> Result<(), WantOfMemory>
         requires empty { self.old.text ≡ [] }
         requires sound { IsSound message.now }
+        requires some { message.now.sets.items ≢ [] }
         ensures stays { Stays self.old self.new }
-        ensures ok { OnOk result (self.new.text ≡ data_text self.old.forms.kind self.old.forms self.old.domains message.now) }
+        ensures ok { OnOk result (self.new.text ≡ sets_text self.old.forms.kind self.old.forms message.now) }
     {
-        if !comes_to(&self.domains, message) {
-            return Ok(());
-        }
         match self.forms.kind() {
             TextKind::Json { options: _ } => self.put_lines(message),
             TextKind::View => self.list_message(message),
         }
     }
 
-    /// Makes the text of a message.
+    /// Makes the text of a message. One that doesn't go to the output has none.
     fn put_message(&mut self, message: &Msg) -> Result<(), WantOfMemory>
         requires sound { IsSoundMessage message.now }
         ensures stays { Stays self.old self.new }
         ensures ok { OnOk result (self.new.text ≡ alone self.old.forms self.old.domains message.now) }
     {
         self.text.clear();
+        if !goes(&self.domains, message) {
+            return Ok(());
+        }
         match message {
             Msg::SessionMsg(note) => self.put_note(*note),
             Msg::DataMsg(message) => self.put_data(message),
