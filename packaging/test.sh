@@ -2,7 +2,7 @@
 # test.sh [PROGRAM [TRY..]]: tries what packaging/ has, with the built PROGRAM (crates/ipfixcol/out/ipfixcol), prints what
 # isn't as it is to be, and at the end how many tries passed, failed and were skipped. It ends with 1 where one failed. It
 # wants no root and no network but loopback. A try whose tools or program are missing is skipped, with a word: mandoc,
-# systemd-analyze, lintian, dpkg-deb with binutils, logrotate, python3.
+# systemd-analyze, strace, lintian, dpkg-deb with binutils, logrotate, python3.
 # shellcheck disable=SC2317
 set -u
 here=$(realpath "$(dirname "$0")")
@@ -130,6 +130,72 @@ units_are_hardened() {
         fi
         [[ $line =~ (OK|SAFE) ]] || tell "$line"
     done
+}
+
+# The filter of system calls, by what a run makes that reads a file, a connection and datagrams, and that pauses.
+calls_are_within_the_filter() {
+    needs strace systemd-analyze python3 program || return
+    local port
+    port=$(free_port)
+    "$here/tests/swell.py" in.ipfix
+    describe "$port" flows.json
+    sed -i 's|^version = 1|&\norder-log = "order"|' run.toml
+    cat >> run.toml << END
+[[input]]
+name = "file"
+kind = "file"
+path = "in.ipfix"
+[[input]]
+name = "stream"
+kind = "tcp"
+listen = "127.0.0.1:$port"
+[[output]]
+name = "copy"
+kind = "ipfix"
+path = "copy.ipfix"
+END
+    strace -f -o calls.txt "$program" collect -c run.toml > said.txt &
+    started+=("$!")
+    until_true 10 listens "$port" || tell "nobody listens"
+    pkill_of() { ps -o pid= --ppid "$1"; }
+    run=$(pkill_of "${started[-1]}")
+    started+=("$run")
+    "$here/tests/send.py" "$port" 1 20 1
+    python3 -c 'import socket, sys; socket.create_connection(("127.0.0.1", int(sys.argv[1]))).sendall(b"no message of ours")' "$port"
+    sleep 0.5
+    kill "$run"
+    wait "${started[-2]}" 2> /dev/null
+    "$here/tests/calls.py" "$here/ipfixcol.service" calls.txt > told.txt 2>&1 || tell "$(cat told.txt)"
+    for call in recvfrom accept4 openat write; do
+        grep -q "$call(" calls.txt || tell "there is no $call"
+    done
+}
+
+# A limit of memory as LimitAS sets it: the output ends that wants more, with whole lines, and the run tells it.
+a_limit_of_memory_is_told() {
+    needs python3 program || return
+    "$here/tests/swell.py" in.ipfix
+    cat > run.toml << END
+version = 1
+[[input]]
+name = "in"
+kind = "file"
+path = "in.ipfix"
+[[output]]
+name = "flows"
+kind = "json"
+path = "flows.json"
+[[output]]
+name = "copy"
+kind = "ipfix"
+path = "copy.ipfix"
+END
+    (ulimit -v 1048576 && exec "$program" collect -c run.toml > said.txt)
+    wants status $? 6
+    wants "what is said" "$(head -n 4 said.txt | tr '\n' ' ')" "memory: flows sessions 1 messages 3 records 60001 "
+    wants "the lines" "$(cat flows.json)" '{"@type":"ipfix.entry","iana:octetDeltaCount":7}'
+    # a template message and a message of records for each definition, which is all that came
+    wants "octets of the copy" "$(stat -c %s copy.ipfix)" $((28 + 28 + 24 + 15001 * 4 + 20 + 60000))
 }
 
 outputs_are_set_aside() {
@@ -347,7 +413,8 @@ package_is_lintian_clean() {
     lintian --fail-on error --allow-root "$package" > lintian.txt 2>&1 || tell "$(grep '^E:' lintian.txt)"
 }
 
-tries=(pages_are_clean pages_are_as_the_code conformance_names_what_is_there units_are_hardened outputs_are_set_aside
+tries=(pages_are_clean pages_are_as_the_code conformance_names_what_is_there units_are_hardened
+    calls_are_within_the_filter a_limit_of_memory_is_told outputs_are_set_aside
     three_starts_keep_all rotation_loses_nothing rotation_cuts_at_lines logrotate_cuts_without_a_hole health_tells_troubles
     progress_tells_how_far package_installs package_is_lintian_clean)
 [ $# -le 1 ] || tries=("${@:2}")
