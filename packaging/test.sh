@@ -135,9 +135,10 @@ units_are_hardened() {
 # The filter of system calls, by what a run makes that reads a file, a connection and datagrams, and that pauses.
 calls_are_within_the_filter() {
     needs strace systemd-analyze python3 program || return
-    local port
+    local port stream
     port=$(free_port)
-    "$here/tests/swell.py" in.ipfix
+    stream=$(free_port)
+    cp "$here/../examples/one_flow.ipfix" in.ipfix
     describe "$port" flows.json
     sed -i 's|^version = 1|&\norder-log = "order"|' run.toml
     cat >> run.toml << END
@@ -148,7 +149,7 @@ path = "in.ipfix"
 [[input]]
 name = "stream"
 kind = "tcp"
-listen = "127.0.0.1:$port"
+listen = "127.0.0.1:$stream"
 [[output]]
 name = "copy"
 kind = "ipfix"
@@ -157,11 +158,10 @@ END
     strace -f -o calls.txt "$program" collect -c run.toml > said.txt &
     started+=("$!")
     until_true 10 listens "$port" || tell "nobody listens"
-    pkill_of() { ps -o pid= --ppid "$1"; }
-    run=$(pkill_of "${started[-1]}")
+    run=$(pgrep -P "${started[-1]}")
     started+=("$run")
     "$here/tests/send.py" "$port" 1 20 1
-    python3 -c 'import socket, sys; socket.create_connection(("127.0.0.1", int(sys.argv[1]))).sendall(b"no message of ours")' "$port"
+    python3 -c 'import socket, sys; socket.create_connection(("127.0.0.1", int(sys.argv[1]))).sendall(b"no message of ours")' "$stream"
     sleep 0.5
     kill "$run"
     wait "${started[-2]}" 2> /dev/null
